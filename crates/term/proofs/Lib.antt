@@ -1,0 +1,12 @@
+-- What a crate above may cite is Laws.
+mod Words
+mod Rows
+mod Scan
+mod Trees
+mod Lists
+mod Renumbers
+mod Bodies
+mod Parts
+mod Images
+mod Walks
+mod Answers

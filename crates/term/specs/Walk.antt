@@ -1,0 +1,56 @@
+-- What a walk over a row of trees in words tells, tree after tree, one call a level.
+use Prim.Native.Nat.{ℕ, zero, suc, _+_, _≤_}
+use mathlib.Core.Path.{_≡_}
+use mathlib.Core.Bool.{Bool, true, false, _&&_}
+use mathlib.Core.List.{List, _++_}
+use mathlib.Core.Option.{Option, none, some}
+use lib.Dec.{leb, eqb}
+use lib.ListN.{length, drop}
+use lib.Seq.{sets}
+use Rattle.term.specs.declared.renumber.Way.{Way}
+use Rattle.term.specs.declared.renumber.Way.the-variants.{ToBody, ToTerm}
+use Rattle.term.specs.declared.renumber.Image.{Image}
+use Rattle.term.specs.declared.renumber.Image.the-variants.{Word, None}
+use Rattle.term.specs.declared.renumber.Step.{Step}
+use Rattle.term.specs.declared.renumber.Step.the-variants.{Done, Stuck}
+use Rattle.term.specs.Word.{Head, pick, kind, kindOf, word}
+use Rattle.term.specs.Row.{Row, width, words, kinds, nesting, Formed}
+use Rattle.term.specs.Renumber.{idBody, idTermWithin, renumberHead, renumber, namedHead, named}
+
+-- an id's image, 0 where it has none
+unfoldable pub image : Way → ℕ → List ℕ → ℕ → ℕ → ℕ
+image ToBody d ys = idBody d ys
+image ToTerm d ys = idTermWithin d ys
+
+-- a word's image, where it is a term's word and its id has one
+unfoldable pub imageOf : (ℕ → ℕ → ℕ) → ℕ → Option Head → Image
+imageOf m e none = None
+imageOf m e (some h) = pick (leb (kind h) 2 && namedHead m e h) (Word (word (renumberHead m e h))) None
+
+-- the abstractions around the children of a word
+unfoldable pub insideWord : ℕ → ℕ → ℕ
+insideWord w e = pick (eqb (kindOf w) 1) (e + 1) e
+
+-- `count` trees of a term, nesting at most so many levels, stand at an offset of the words
+pub record Stands (levels count : ℕ) (ws : List ℕ) (at : ℕ) (f : Row) (after : List ℕ) : Type 0 where
+  pub formed : Formed f
+  pub few : kinds f ≤ 2
+  pub low : nesting f ≤ levels
+  pub wide : width f ≡ count
+  pub same : drop at ws ≡ words f ++ after
+
+-- a row's images are written at the same offset; Stuck where no row stands there, or one of its ids has no image
+unfoldable pub RowTold : (ℕ → ℕ → ℕ) → ℕ → ℕ → ℕ → List ℕ → ℕ → List ℕ → List ℕ → Step → Type 0
+RowTold m e levels count ws at out done (Done a) =
+    (f : Row) × (after : List ℕ) × Stands levels count ws at f after × (named m e f ≡ true) × (a ≡ at + length (words f)) × (done ≡ sets out at (words (renumber m e f)))
+RowTold m e levels count ws at out done Stuck =
+    (f : Row) (after : List ℕ) → Stands levels count ws at f after → named m e f ≡ false
+
+-- two rows have the same images; Stuck where they have not
+unfoldable pub SameTold : (ℕ → ℕ → ℕ) → (ℕ → ℕ → ℕ) → ℕ → ℕ → ℕ → List ℕ → List ℕ → ℕ → Step → Type 0
+SameTold m n e levels count ws vs at (Done a) =
+    (f g : Row) × (after : List ℕ) × (beyond : List ℕ) × Stands levels count ws at f after × Stands levels count vs at g beyond
+    × (named m e f ≡ true) × (named n e g ≡ true) × (renumber m e f ≡ renumber n e g) × (a ≡ at + length (words f))
+SameTold m n e levels count ws vs at Stuck =
+    (f g : Row) (after beyond : List ℕ) → Stands levels count ws at f after → Stands levels count vs at g beyond
+    → named m e f ≡ true → named n e g ≡ true → renumber m e f ≡ renumber n e g → ⊥

@@ -1,0 +1,8 @@
+// Terms as words in prefix order: document 01's "Words" and "Renumbering".
+pub mod check;
+pub mod lent;
+pub mod list;
+pub mod part;
+pub mod renumber;
+pub mod same;
+pub mod word;

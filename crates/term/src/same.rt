@@ -1,0 +1,77 @@
+// Whether two parts, each under its own abstractions and with its own list, have the same body.
+ghost use mathlib.Core.Path.{_≡_};
+ghost use Prim.Native.Nat.{_+_, _≤_};
+ghost use lib.ListN.{length};
+ghost use Rattle.term.specs.Renumber.{idBody};
+ghost use Rattle.term.specs.Walk.{SameTold};
+use crate::renumber::Image;
+use crate::renumber::Step;
+use crate::renumber::Way;
+use crate::renumber::inside_word;
+use crate::renumber::renumber_word;
+use crate::word::COUNT;
+use crate::word::COUNTS;
+
+// Whether `count` trees from `at` on have the same images on both sides. A call goes one level down, and the loop along the row.
+pub fn same_row(
+    d: u32,
+    list: &[u32],
+    words: &[u32],
+    other_d: u32,
+    other_list: &[u32],
+    other_words: &[u32],
+    e: u32,
+    levels: u32,
+    count: u32,
+    at: usize,
+) -> Step
+    requires { ⌜ (length (now list) ≤ 4) × (length (now «other_list») ≤ 4) × (e + levels ≤ 64) ⌝ }
+    ensures { λ r. ⌜ SameTold (idBody d (now (list .entry))) (idBody «other_d» (now («other_list» .entry))) e levels count (now (words .entry)) (now («other_words» .entry)) at r ⌝ }
+{
+    let mut a = at;
+    let mut left = count;
+    while left != 0 {
+        if levels == 0 {
+            return Step::Stuck;
+        }
+        if words.len() <= a {
+            return Step::Stuck;
+        }
+        if other_words.len() <= a {
+            return Step::Stuck;
+        }
+        let w = words[a];
+        let Image::Word(v) = renumber_word(Way::ToBody, d, list, e, w) else {
+            return Step::Stuck;
+        };
+        let Image::Word(u) = renumber_word(Way::ToBody, other_d, other_list, e, other_words[a])
+        else {
+            return Step::Stuck;
+        };
+        if v != u {
+            return Step::Stuck;
+        }
+        let inner = inside_word(w, e);
+        match same_row(
+            d,
+            list,
+            words,
+            other_d,
+            other_list,
+            other_words,
+            inner,
+            levels - 1,
+            w / COUNT % COUNTS,
+            a + 1,
+        ) {
+            Step::Done(b) => {
+                a = b;
+                left = left - 1;
+            }
+            Step::Stuck => {
+                return Step::Stuck;
+            }
+        }
+    }
+    Step::Done(a)
+}
