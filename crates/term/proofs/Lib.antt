@@ -10,3 +10,5 @@ mod Parts
 mod Images
 mod Walks
 mod Answers
+mod Clauses
+pub mod Laws

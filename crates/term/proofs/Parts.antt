@@ -1,14 +1,19 @@
 -- Parts of terms: where one ends, and that each offset of a term begins one.
 use mathlib.Core.Path.{_≡_, refl, sym, ap, _∙_}
-use mathlib.Core.List.{List, [], _∷_, _++_, append-assoc}
+use mathlib.Core.Bool.{Bool, true, false}
+use mathlib.Core.List.{List, [], _∷_, _++_, append-assoc, append-nil}
 use Prim.Native.Nat.{ℕ, zero, suc, _+_, _-_, _≤_, _<_}
 use native.Mathlib.Omega.{arith}
 use native.Mathlib.Nat.{suc-add, zero-add}
 use native.Mathlib.Numerals.{add-one}
 use lib.ListN.{length, drop, getD, length-append, length-drop}
-use lib.Seq.{drop-cons}
+use lib.Seq.{drop-cons, drop-append-add}
+use lib.Dec.{ltb}
+use borrow.Author.Tests.{ltb-true, ltb-false}
 use Rattle.term.specs.Word.{countOf, word}
-use Rattle.term.specs.Row.{Row, nothing, node, width, words, Formed}
+use Rattle.term.specs.Row.{Row, nothing, node, width, words, nesting, kinds, Formed}
+use Rattle.term.specs.Check.{IsTerm}
+use Rattle.term.specs.Walk.{Stands}
 use Rattle.term.specs.Part.{past, partEnd}
 use Rattle.term.proofs.Words.{count-word}
 
@@ -63,3 +68,60 @@ module _ (ws : List ℕ) (at n : ℕ) (rest : partEnd ws ≡ at + past n (drop a
 pub passed-first : (ws : List ℕ) → partEnd ws ≡ 0 + past 1 (drop 0 ws)
 unfolding partEnd
 passed-first ws = omega arith
+
+-- ---- every offset of a term begins a part of it
+abbrev Begins : ℕ → List ℕ → ℕ → Type 0
+Begins n ws at = (g : Row) × (after : List ℕ) × Stands n 1 ws at g after
+
+moved : (n : ℕ) (ws vs : List ℕ) (at to : ℕ) → drop to vs ≡ drop at ws → Begins n ws at → Begins n vs to
+moved n ws vs at to e b =
+    let s = b .2 in
+    (b .0, b .1, record { formed = s .formed; few = s .few; low = s .low; wide = s .wide; same = e ∙ s .same })
+
+-- an offset after the first word is one of the children's or one to their right
+after-first : (n w : ℕ) (xs ys more : List ℕ) (i : ℕ) → (i < length xs → Begins n (xs ++ (ys ++ more)) i) → (length xs ≤ i → Begins n (ys ++ more) (i - length xs))
+    → Begins n (w ∷ ((xs ++ ys) ++ more)) (suc i)
+after-first n w xs ys more i below beside = go (ltb i (length xs)) refl
+  where
+    go : (b : Bool) → ltb i (length xs) ≡ b → Begins n (w ∷ ((xs ++ ys) ++ more)) (suc i)
+    go true e =
+        moved n (xs ++ (ys ++ more)) (w ∷ ((xs ++ ys) ++ more)) i (suc i) (ap (drop i) (append-assoc xs ys more)) (below (ltb-true _ _ e))
+    go false e =
+        let l : length xs ≤ i = ltb-false i (length xs) e in
+        let k : length xs + (i - length xs) ≡ i = omega arith in
+        moved n (ys ++ more) (w ∷ ((xs ++ ys) ++ more)) (i - length xs) (suc i)
+        (ap (drop i) (append-assoc xs ys more) ∙ rw k at (drop-append-add xs (ys ++ more) (i - length xs))) (beside l)
+
+row-part : (n : ℕ) (f : Row) → Formed f → kinds f ≤ 2 → nesting f ≤ n → (at : ℕ) (more : List ℕ) → at < length (words f) → Begins n (words f ++ more) at
+unfolding words width Formed nesting kinds
+row-part n nothing p k l at more h = absurd (omega arith)
+row-part n (node x kids rest) p k l zero more h = (
+  node x kids nothing,
+  words rest ++ more,
+  record {
+    formed = (p .0, p .1, p .2, tt);
+    few = omega arith;
+    low = omega arith;
+    wide = refl;
+    same = ap (word x ∷_) (append-assoc (words kids) (words rest) more ∙ ap (λ (l : List ℕ). l ++ (words rest ++ more)) (sym (append-nil (words kids))));
+  },
+)
+row-part n (node x kids rest) p k l (suc i) more h =
+    after-first n (word x) (words kids) (words rest) more i
+    (λ s. row-part n kids (p .2) (omega arith) (omega arith) i (words rest ++ more) s)
+    (λ s. row-part n rest (p .3) (omega arith) (omega arith) (i - length (words kids)) more (omega (arith, length-append (words kids) (words rest))))
+
+-- a part of a term is a term
+pub part-begins : (ws : List ℕ) → IsTerm ws → (at : ℕ) → at < length ws → (f : Row) × (after : List ℕ) × Stands 64 1 (drop at ws) 0 f after
+part-begins ws i at h =
+    let e : words (i .tree) ++ [] ≡ ws = append-nil (words (i .tree)) ∙ sym (i .same) in
+    moved 64 (words (i .tree) ++ []) (drop at ws) at 0 (ap (drop at) (sym e))
+    (row-part 64 (i .tree) (i .formed) (i .few) (i .low) at [] (rw (i .same) at h))
+
+pub stands-term : (ws : List ℕ) (f : Row) (after : List ℕ) → length (words f) ≤ 4096 → Stands 64 1 ws 0 f after → IsTerm (words f)
+stands-term ws f after l s = record { tree = f; one = s .wide; formed = s .formed; few = s .few; low = s .low; short = l; same = refl }
+
+-- where a part that stands ends
+pub part-ends : (n : ℕ) (ws : List ℕ) (f : Row) (after : List ℕ) → Stands n 1 ws 0 f after → partEnd ws ≡ length (words f)
+unfolding partEnd
+part-ends n ws f after s = rw (s .same) (rw (s .wide) at (past-words f (s .formed) after))

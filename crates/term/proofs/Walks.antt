@@ -9,6 +9,7 @@ use native.Mathlib.Nat.{add-zero, suc-add, add-suc, le-max-left, le-max-right}
 use native.Mathlib.Numerals.{add-one}
 use lib.ListN.{length, drop, getD, set, length-append, length-drop}
 use lib.Seq.{sets, drop-cons, drop-drop, drop-at}
+use borrow.Author.Tests.{eqb-true, eqb-false}
 use Rattle.term.specs.declared.renumber.Image.{Image}
 use Rattle.term.specs.declared.renumber.Image.the-variants.{Word, None}
 use Rattle.term.specs.declared.renumber.Step.{Step}
@@ -17,7 +18,7 @@ use Rattle.term.specs.Word
 use Rattle.term.specs.Word.{Head, kind, word, InTable, countOf, headOf}
 use Rattle.term.specs.Row.{Row, nothing, node, width, words, nesting, kinds, Formed}
 use Rattle.term.specs.Renumber.{inside, renumberHead, renumber, namedHead, named}
-use Rattle.term.specs.Walk.{imageOf, insideWord, Stands, RowTold, SameTold}
+use Rattle.term.specs.Walk.{imageOf, sameImage, insideWord, Stands, RowTold, SameTold}
 use Rattle.term.proofs.Words.{never, and-left, and-right, and-both, head-is, head-word, count-word}
 use Rattle.term.proofs.Rows.{words-unique}
 use Rattle.term.proofs.Renumbers.{length-renumber, count-renumber, inside-renumber}
@@ -223,11 +224,11 @@ module _ (m n : ℕ → ℕ → ℕ) (e levels count : ℕ) (ws vs : List ℕ) (
         let y : namedHead m e (g .head) ≡ false = no-image m e (g .head) (g .table) (g .low) (rw (g .word-is) q) in
         never (false-true (namedHead m e (g .head)) y (and-left (namedHead m e (g .head)) _ x))
 
-    pub same-no-image : imageOf m e (headOf (getD ws at 0)) ≡ None → SameTold m n e levels count ws vs at Stuck
+    same-no-image : imageOf m e (headOf (getD ws at 0)) ≡ None → SameTold m n e levels count ws vs at Stuck
     unfolding SameTold
     same-no-image x f g after beyond s t a b q = unnamed m ws f after x (first levels count ws at z f after s) a
 
-    pub same-no-image-other : imageOf n e (headOf (getD vs at 0)) ≡ None → SameTold m n e levels count ws vs at Stuck
+    same-no-image-other : imageOf n e (headOf (getD vs at 0)) ≡ None → SameTold m n e levels count ws vs at Stuck
     unfolding SameTold
     same-no-image-other x f g after beyond s t a b q = unnamed n vs g beyond x (first levels count vs at z g beyond t) b
 
@@ -269,7 +270,7 @@ module _ (m n : ℕ → ℕ → ℕ) (e levels count : ℕ) (ws vs : List ℕ) (
             named-other = named-parts n (o .head) (o .children) (o .right) (rw (o .is) at b);
           }
 
-      pub same-differ : (v ≡ u → ⊥) → SameTold m n e levels count ws vs at Stuck
+      same-differ : (v ≡ u → ⊥) → SameTold m n e levels count ws vs at Stuck
       unfolding SameTold
       same-differ d f g after beyond s t a b q =
           let c = common f g after beyond s t a b q in
@@ -368,3 +369,20 @@ module _ (m n : ℕ → ℕ → ℕ) (e levels count : ℕ) (ws vs : List ℕ) (
                     rest (c .left .right) (c .other .right) after beyond
                     (rw (told .9, ← x) (c .left .beside)) (rw (long, ← y) (c .other .beside))
                     (c .named-left .1) (c .named-other .1) (c .beside)
+
+    -- the two words have no image, or not the same
+    pub same-unlike : sameImage (imageOf m e (headOf (getD ws at 0))) (imageOf n e (headOf (getD vs at 0))) ≡ false → SameTold m n e levels count ws vs at Stuck
+    unfolding sameImage
+    same-unlike q = go (imageOf m e (headOf (getD ws at 0))) (imageOf n e (headOf (getD vs at 0))) refl refl q
+      where
+        go : (i j : Image) → imageOf m e (headOf (getD ws at 0)) ≡ i → imageOf n e (headOf (getD vs at 0)) ≡ j → sameImage i j ≡ false → SameTold m n e levels count ws vs at Stuck
+        go None j x y q = same-no-image x
+        go (Word v) None x y q = same-no-image-other y
+        go (Word v) (Word u) x y q = same-differ v u x y (eqb-false v u q)
+
+-- the one image of two words
+pub like : (i j : Image) → sameImage i j ≡ true → (v : ℕ) × (i ≡ Word v) × (j ≡ Word v)
+unfolding sameImage
+like None j q = never (cc)
+like (Word v) None q = never (cc)
+like (Word v) (Word u) q = (v, refl, ap Word (sym (eqb-true v u q)))

@@ -27,6 +27,12 @@ unfoldable pub imageOf : (ℕ → ℕ → ℕ) → ℕ → Option Head → Image
 imageOf m e none = None
 imageOf m e (some h) = pick (leb (kind h) 2 && namedHead m e h) (Word (word (renumberHead m e h))) None
 
+-- two words have images, and the same
+unfoldable pub sameImage : Image → Image → Bool
+sameImage None j = false
+sameImage (Word v) None = false
+sameImage (Word v) (Word u) = eqb v u
+
 -- the abstractions around the children of a word
 unfoldable pub insideWord : ℕ → ℕ → ℕ
 insideWord w e = pick (eqb (kindOf w) 1) (e + 1) e

@@ -3,7 +3,8 @@ ghost use mathlib.Core.Path.{_≡_};
 ghost use Prim.Native.Nat.{_+_, _≤_};
 ghost use lib.ListN.{length};
 ghost use Rattle.term.specs.Renumber.{idBody};
-ghost use Rattle.term.specs.Walk.{SameTold};
+ghost use Rattle.term.specs.Walk.{imageOf, sameImage, SameTold};
+ghost use Rattle.term.specs.Word.{headOf};
 use crate::renumber::Image;
 use crate::renumber::Step;
 use crate::renumber::Way;
@@ -11,6 +12,20 @@ use crate::renumber::inside_word;
 use crate::renumber::renumber_word;
 use crate::word::COUNT;
 use crate::word::COUNTS;
+
+// Whether two words have the same image.
+fn same_word(d: u32, list: &[u32], other_d: u32, other_list: &[u32], e: u32, w: u32, x: u32) -> bool
+    requires { ⌜ (length (now list) ≤ 4) × (length (now «other_list») ≤ 4) × (e ≤ 64) ⌝ }
+    ensures { λ r. ⌜ r ≡ sameImage (imageOf (idBody d (now (list .entry))) e (headOf w)) (imageOf (idBody «other_d» (now («other_list» .entry))) e (headOf x)) ⌝ }
+{
+    let Image::Word(v) = renumber_word(Way::ToBody, d, list, e, w) else {
+        return false;
+    };
+    let Image::Word(u) = renumber_word(Way::ToBody, other_d, other_list, e, x) else {
+        return false;
+    };
+    v == u
+}
 
 // Whether `count` trees from `at` on have the same images on both sides. A call goes one level down, and the loop along the row.
 pub fn same_row(
@@ -41,14 +56,7 @@ pub fn same_row(
             return Step::Stuck;
         }
         let w = words[a];
-        let Image::Word(v) = renumber_word(Way::ToBody, d, list, e, w) else {
-            return Step::Stuck;
-        };
-        let Image::Word(u) = renumber_word(Way::ToBody, other_d, other_list, e, other_words[a])
-        else {
-            return Step::Stuck;
-        };
-        if v != u {
+        if !same_word(d, list, other_d, other_list, e, w, other_words[a]) {
             return Step::Stuck;
         }
         let inner = inside_word(w, e);

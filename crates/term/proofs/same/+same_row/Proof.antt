@@ -1,21 +1,22 @@
 -- `same::same_row` meets its contract. The levels fall; the loop's invariant is that what is told of the trees left tells of the whole rows.
 use borrow.Author.Needs.{needs}
+use borrow.Author.Tests.{not-true, not-false}
 use native.Mathlib.Omega.{arith}
-use mathlib.Core.Path.{_≡_, sym, _∙_}
+use mathlib.Core.Path.{_≡_, refl, sym, _∙_}
 use Prim.Native.Nat.{ℕ, _<_, _≤_, _+_, _-_}
 use lib.ListN.{length, getD}
 use Rattle.term.specs.declared.renumber.Step.{Step}
 use Rattle.term.specs.Renumber.{idBody}
-use Rattle.term.specs.Walk.{image, SameTold}
+use Rattle.term.specs.Walk.{SameTold}
 use Rattle.term.proofs.Images.{inside-small}
-use Rattle.term.proofs.Walks.{same-done, same-deep, same-ended, same-ended-other, same-no-image, same-no-image-other, same-differ, same-stuck, same-more}
+use Rattle.term.proofs.Walks.{like, same-done, same-deep, same-ended, same-ended-other, same-unlike, same-stuck, same-more}
 use borrow.Fn.Kinds.{In}
 use borrow.Fn.PlainCycle.{Measures, is, falls, and}
 use Rattle.term.proofs.same.same_row.Reads as own
 use Rattle.term.proofs.same.same_row.Kinds as kinds-of
 use Rattle.term.proofs.same.+same_row.Lts-same_row as lts
 use Rattle.term.proofs.renumber.inside_word.Reads as inside-word
-use Rattle.term.proofs.renumber.renumber_word.Reads as renumber-word
+use Rattle.term.proofs.same.same_word.Reads as same-word
 use Rattle.term.proofs.same.+same_row.{statement}
 use Rattle.term.proofs.same.+same_row.Tie.{close}
 
@@ -29,7 +30,7 @@ abbrev less-than : ℕ → In 4 kinds-of.ps
 less-than t = and 4 kinds-of.ps (falls 4 kinds-of.ps _<_ falling t) own.Pre
 
 abbrev calls : ℕ → lts.Claims
-calls t = (renumber-word.Asked, renumber-word.Learnt, inside-word.Asked, inside-word.Learnt, less-than t, own.Post)
+calls t = (same-word.Asked, same-word.Learnt, inside-word.Asked, inside-word.Learnt, less-than t, own.Post)
 
 abbrev Inv-loop : lts.InvT-loop
 Inv-loop d list words other-d other-list other-words e levels count at a₀ left₀ a left =
@@ -51,73 +52,46 @@ returns-3 : (t : ℕ) → lts.Need-returns-3 (calls t) (at-most t) own.Post Inv-
 returns-3 t c =
     c .before .before .before .before .loop .inv _ (same-ended-other _ _ _ _ _ _ _ _ (c .before .before .before .loop-test .taken) (c .if3 .taken))
 
-renumber-word-requires : (t : ℕ) → lts.Need-renumber-word-requires (calls t) (at-most t) own.Post Inv-loop μ-loop
-renumber-word-requires t c κs =
-    (c .before .before .before .before .before .before .before .before .before .before .pre .1 .0, omega (arith, c .before .before .before .before .before .before .before .before .before .before .pre .1 .2))
+same-word-requires : (t : ℕ) → lts.Need-same-word-requires (calls t) (at-most t) own.Post Inv-loop μ-loop
+same-word-requires t c κs =
+    (c .before .before .before .before .before .before .before .before .before .before .before .pre .1 .0, c .before .before .before .before .before .before .before .before .before .before .before .pre .1 .1, omega (arith, c .before .before .before .before .before .before .before .before .before .before .before .pre .1 .2))
 
 returns-4 : (t : ℕ) → lts.Need-returns-4 (calls t) (at-most t) own.Post Inv-loop μ-loop
-unfolding image
 returns-4 t c =
-    let s = c .before .before .before .before .before .before .before .before .before .before .before .before .before .args in
-    let q = c .before .before .before .before .before .before .before .before .loop in
-    q .inv _
-    (same-no-image (idBody (s .d) (s .list .now)) (idBody (s .other-d) (s .other-list .now)) (s .e) (s .levels) (q .left) (s .words .now) (s .other-words .now) (q .a) (c .before .before .before .before .before .before .before .loop-test .taken) (sym (c .before .before .renumber-word .ensures) ∙ c .enum-told .given .1))
-
-renumber-word-requires-2 : (t : ℕ) → lts.Need-renumber-word-requires-2 (calls t) (at-most t) own.Post Inv-loop μ-loop
-renumber-word-requires-2 t c κs =
-    (c .before .before .before .before .before .before .before .before .before .before .before .before .before .before .before .pre .1 .1, omega (arith, c .before .before .before .before .before .before .before .before .before .before .before .before .before .before .before .pre .1 .2))
-
-returns-5 : (t : ℕ) → lts.Need-returns-5 (calls t) (at-most t) own.Post Inv-loop μ-loop
-unfolding image
-returns-5 t c =
-    let s = c .before .before .before .before .before .before .before .before .before .before .before .before .before .before .before .before .before .before .args in
-    let q = c .before .before .before .before .before .before .before .before .before .before .before .before .before .loop in
-    q .inv _
-    (same-no-image-other (idBody (s .d) (s .list .now)) (idBody (s .other-d) (s .other-list .now)) (s .e) (s .levels) (q .left) (s .words .now) (s .other-words .now) (q .a) (c .before .before .before .before .before .before .before .before .before .before .before .before .loop-test .taken) (sym (c .before .before .renumber-word2 .ensures) ∙ c .enum-told2 .given .1))
-
-returns-6 : (t : ℕ) → lts.Need-returns-6 (calls t) (at-most t) own.Post Inv-loop μ-loop
-unfolding image
-returns-6 t c =
-    let s = c .before .before .before .before .before .before .before .before .before .before .before .before .before .before .before .before .before .before .before .before .args in
-    let q = c .before .before .before .before .before .before .before .before .before .before .before .before .before .before .before .loop in
-    q .inv _
-    (same-differ (idBody (s .d) (s .list .now)) (idBody (s .other-d) (s .other-list .now)) (s .e) (s .levels) (q .left) (s .words .now) (s .other-words .now) (q .a) (c .before .before .before .before .before .before .before .before .before .before .before .before .before .before .loop-test .taken)
-    (c .before .before .before .before .before .before .before .v .given .0 .0) (c .before .before .u .given .0 .0) (sym (c .before .before .before .before .before .before .before .before .before .renumber-word .ensures) ∙ c .before .before .before .before .before .before .before .v .given .1) (sym (c .before .before .before .before .renumber-word2 .ensures) ∙ c .before .before .u .given .1) (c .if4 .taken))
+    c .before .before .before .before .before .before .before .before .loop .inv _ (same-unlike _ _ _ _ _ _ _ _ (c .before .before .before .before .before .before .before .loop-test .taken) (sym (c .before .same-word .ensures) ∙ not-true _ (c .if4 .taken)))
 
 inside-word-requires : (t : ℕ) → lts.Need-inside-word-requires (calls t) (at-most t) own.Post Inv-loop μ-loop
 inside-word-requires t c κs =
-    omega (arith, c .before .before .before .before .before .before .before .before .before .before .before .before .before .before .before .before .before .before .before .before .pre .1 .2)
+    omega (arith, c .before .before .before .before .before .before .before .before .before .before .before .before .before .pre .1 .2)
 
 same-row-requires : (t : ℕ) → lts.Need-same-row-requires (calls t) (at-most t) own.Post Inv-loop μ-loop
 same-row-requires t c κs =
-    let s = c .before .before .before .before .before .before .before .before .before .before .before .before .before .before .before .before .before .before .before .before .before in (
-      omega (arith, s .pre .0, c .before .before .before .before .before .before .before .before .before .before .before .before .before .before .if1 .left),
-      (s .pre .1 .0, s .pre .1 .1, omega (arith, c .inside-word .ensures, inside-small (getD (s .args .words .now) (c .before .before .before .before .before .before .before .before .before .before .before .before .before .before .before .before .loop .a) 0) (s .args .e), s .pre .1 .2, c .before .before .before .before .before .before .before .before .before .before .before .before .before .before .if1 .left)),
+    let s = c .before .before .before .before .before .before .before .before .before .before .before .before .before .before in (
+      omega (arith, s .pre .0, c .before .before .before .before .before .before .before .if1 .left),
+      (s .pre .1 .0, s .pre .1 .1, omega (arith, c .inside-word .ensures, inside-small (getD (s .args .words .now) (c .before .before .before .before .before .before .before .before .before .loop .a) 0) (s .args .e), s .pre .1 .2, c .before .before .before .before .before .before .before .if1 .left)),
     )
 
 loop-again : (t : ℕ) → lts.Need-loop-again (calls t) (at-most t) own.Post Inv-loop μ-loop
-unfolding image
 loop-again t c =
-    let s = c .before .before .before .before .before .before .before .before .before .before .before .before .before .before .before .before .before .before .before .before .before .before .before .before .before .args in
-    let q = c .before .before .before .before .before .before .before .before .before .before .before .before .before .before .before .before .before .before .before .before .loop in λ r told.
+    let s = c .before .before .before .before .before .before .before .before .before .before .before .before .before .before .before .before .before .before .args in
+    let q = c .before .before .before .before .before .before .before .before .before .before .before .before .before .loop in
+    let v = like _ _ (sym (c .before .before .before .before .before .before .same-word .ensures) ∙ not-false _ (c .before .before .before .before .before .if4 .left)) in λ r told.
     q .inv r
-    (same-more (idBody (s .d) (s .list .now)) (idBody (s .other-d) (s .other-list .now)) (s .e) (s .levels) (q .left) (s .words .now) (s .other-words .now) (q .a) (c .before .before .before .before .before .before .before .before .before .before .before .before .before .before .before .before .before .before .before .loop-test .taken)
-    (c .before .before .before .before .before .before .before .before .before .before .before .before .v .given .0 .0) (c .before .before .before .before .before .before .before .u .given .0 .0) (sym (c .before .before .before .before .before .before .before .before .before .before .before .before .before .before .renumber-word .ensures) ∙ c .before .before .before .before .before .before .before .before .before .before .before .before .v .given .1) (sym (c .before .before .before .before .before .before .before .before .before .renumber-word2 .ensures) ∙ c .before .before .before .before .before .before .before .u .given .1) (c .before .before .before .before .before .if4 .left)
-    (c .before .b .given .0 .0) (omega (arith, c .before .before .before .before .before .before .before .before .before .before .before .before .before .before .before .before .before .before .if1 .left)) (c .before .before .before .before .before .before .before .before .before .before .before .before .before .before .before .before .before .if2 .left) (c .before .before .before .before .before .before .before .before .before .before .before .before .before .before .before .before .if3 .left)
+    (same-more (idBody (s .d) (s .list .now)) (idBody (s .other-d) (s .other-list .now)) (s .e) (s .levels) (q .left) (s .words .now) (s .other-words .now) (q .a) (c .before .before .before .before .before .before .before .before .before .before .before .before .loop-test .taken)
+    (v .0) (v .0) (v .1) (v .2) refl (c .before .b .given .0 .0) (omega (arith, c .before .before .before .before .before .before .before .before .before .before .before .if1 .left)) (c .before .before .before .before .before .before .before .before .before .before .if2 .left) (c .before .before .before .before .before .before .before .before .before .if3 .left)
     (rw (c .before .before .before .before .inside-word .ensures, c .before .b .given .1) at (c .before .before .before .same-row .ensures)) r told)
 
-returns-7 : (t : ℕ) → lts.Need-returns-7 (calls t) (at-most t) own.Post Inv-loop μ-loop
-unfolding image
-returns-7 t c =
-    let s = c .before .before .before .before .before .before .before .before .before .before .before .before .before .before .before .before .before .before .before .before .before .before .before .before .args in
-    let q = c .before .before .before .before .before .before .before .before .before .before .before .before .before .before .before .before .before .before .before .loop in
+returns-5 : (t : ℕ) → lts.Need-returns-5 (calls t) (at-most t) own.Post Inv-loop μ-loop
+returns-5 t c =
+    let s = c .before .before .before .before .before .before .before .before .before .before .before .before .before .before .before .before .before .args in
+    let q = c .before .before .before .before .before .before .before .before .before .before .before .before .loop in
+    let v = like _ _ (sym (c .before .before .before .before .before .same-word .ensures) ∙ not-false _ (c .before .before .before .before .if4 .left)) in
     q .inv _
-    (same-stuck (idBody (s .d) (s .list .now)) (idBody (s .other-d) (s .other-list .now)) (s .e) (s .levels) (q .left) (s .words .now) (s .other-words .now) (q .a) (c .before .before .before .before .before .before .before .before .before .before .before .before .before .before .before .before .before .before .loop-test .taken)
-    (c .before .before .before .before .before .before .before .before .before .before .before .v .given .0 .0) (c .before .before .before .before .before .before .u .given .0 .0) (sym (c .before .before .before .before .before .before .before .before .before .before .before .before .before .renumber-word .ensures) ∙ c .before .before .before .before .before .before .before .before .before .before .before .v .given .1) (sym (c .before .before .before .before .before .before .before .before .renumber-word2 .ensures) ∙ c .before .before .before .before .before .before .u .given .1) (c .before .before .before .before .if4 .left)
-    (rw (c .before .before .before .inside-word .ensures, c .enum-told3 .given .1) at (c .before .before .same-row .ensures)))
+    (same-stuck (idBody (s .d) (s .list .now)) (idBody (s .other-d) (s .other-list .now)) (s .e) (s .levels) (q .left) (s .words .now) (s .other-words .now) (q .a) (c .before .before .before .before .before .before .before .before .before .before .before .loop-test .taken)
+    (v .0) (v .0) (v .1) (v .2) refl (rw (c .before .before .before .inside-word .ensures, c .enum-told .given .1) at (c .before .before .same-row .ensures)))
 
-returns-8 : (t : ℕ) → lts.Need-returns-8 (calls t) (at-most t) own.Post Inv-loop μ-loop
-returns-8 t c = c .before .loop .inv _ (same-done _ _ _ _ _ _ _ _ (c .loop-test .left))
+returns-6 : (t : ℕ) → lts.Need-returns-6 (calls t) (at-most t) own.Post Inv-loop μ-loop
+returns-6 t c = c .before .loop .inv _ (same-done _ _ _ _ _ _ _ _ (c .loop-test .left))
 
 pub +same-row-spec : {M : Type 1} → statement M
 +same-row-spec = close falling λ t. lts.spec (calls t) (at-most t) own.Post Inv-loop μ-loop
@@ -127,17 +101,10 @@ pub +same-row-spec : {M : Type 1} → statement M
     (returns-3 t)
     (λ c. omega arith)
     (λ c. omega arith)
-    (renumber-word-requires t)
-    (λ c. search needs)
-    (λ c. search needs)
+    (λ c. omega arith)
+    (λ c. omega arith)
+    (same-word-requires t)
     (returns-4 t)
-    (λ c. omega arith)
-    (λ c. omega arith)
-    (renumber-word-requires-2 t)
-    (λ c. search needs)
-    (λ c. search needs)
-    (returns-5 t)
-    (returns-6 t)
     (inside-word-requires t)
     (λ c. omega arith)
     (λ c. omega arith)
@@ -147,5 +114,5 @@ pub +same-row-spec : {M : Type 1} → statement M
     (λ c. omega arith)
     (loop-again t)
     (λ c. search needs)
-    (returns-7 t)
-    (returns-8 t)
+    (returns-5 t)
+    (returns-6 t)
