@@ -124,6 +124,22 @@ module _ (d : ℕ) (ys ws : List ℕ) where
   unfolding hasBody
   is-none e = sym (rw e)
 
+  pub some-is : hasBody d ys ws ≡ true → (b : Row) × (bodyOf d ys ws ≡ some b)
+  unfolding hasBody
+  some-is h = go (bodyOf d ys ws) h
+    where
+      go : (o : Option Row) → isSome o ≡ true → (b : Row) × (o ≡ some b)
+      go none q = never (cc)
+      go (some b) q = (b, refl)
+
+  pub none-is : hasBody d ys ws ≡ false → bodyOf d ys ws ≡ none
+  unfolding hasBody
+  none-is h = go (bodyOf d ys ws) h
+    where
+      go : (o : Option Row) → isSome o ≡ false → o ≡ none
+      go none q = refl
+      go (some b) q = never (cc)
+
   -- what write_body answers and leaves, where its slice was cleared before the walk and after a refusal
   module _ (room : ℕ) where
     pub body-none : (out : List ℕ) → out ≡ replicate room 0 → bodyOf d ys ws ≡ none

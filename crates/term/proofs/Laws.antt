@@ -1,6 +1,29 @@
 -- What a crate above may cite of this one, and nothing else.
---
--- Words and rows.
+
+-- Heads and words: a head of the table is read back from its word, and a word that is read gives itself back.
 pub use Rattle.term.proofs.Words.{head-word, head-is, kind-word, count-word, ident-word}
+-- Rows: the clauses of their definitions, and rows side by side.
 pub use Rattle.term.proofs.Clauses.{words-nothing, words-node, width-nothing, width-node, nesting-nothing, nesting-node, kinds-nothing, kinds-node, join-nothing-left, join-node, row-clauses, FormedNode, formed-nothing, formed-node, node-formed}
 pub use Rattle.term.proofs.Rows.{join-nothing, join-join, width-join, words-join, nesting-join, kinds-join, formed-join}
+-- Words are uniquely readable, both ways.
+pub use Rattle.term.proofs.Rows.{Reads, read-words, words-read, words-unique}
+-- A list of words is good just where it is one tree within the limits.
+pub use Rattle.term.proofs.Trees.{tree-good, good-tree}
+-- A part of a term is a term: every offset begins one, and it ends where its counts say.
+pub use Rattle.term.proofs.Parts.{part-begins, stands-term, part-ends, past-words}
+pub use Rattle.term.proofs.Answers.{part-stands, part-is, term-part}
+-- Lists: the test says what it tests; as many ids as d are all of them.
+pub use Rattle.term.proofs.Lists.{good-true, true-good, at-most, all-there, position-is, position-at, listed-range}
+-- Renumbering of ids, by document 01's three cases, and of rows, variable by variable.
+pub use Rattle.term.proofs.Bodies.{term-own, term-inner, term-outside, body-own, body-inner, body-outside, back-to-body, back-to-term, body-id-within, term-id-some, term-id-passes}
+pub use Rattle.term.proofs.Clauses.{renumber-nothing, renumber-node, term-is}
+pub use Rattle.term.proofs.Renumbers.{Every, implied, both, everywhere, shallow, agree, unmoved, twice, renumber-join, IsId, formed-ids, formed-renumber, formed-renumbered}
+-- Body to term and back, term to body and back.
+pub use Rattle.term.proofs.Bodies.{body-term, term-body}
+-- A body is formed, as long and as deep as its part; a term of a body too, and formed just where no id passes 65,535.
+pub use Rattle.term.proofs.Bodies.{Keeps, body-keeps, term-keeps, body-formed, within-formed, formed-within}
+-- A part has a body just where it is closed; closedness goes by the list as a set, and always holds where k = d.
+pub use Rattle.term.proofs.Bodies.{body-is, closed-body, open-body, closed-set, closed-all}
+-- The operations' words: what a body of a part is, and that two parts are the same just where their bodies are.
+pub use Rattle.term.proofs.Answers.{BodyIs, body-of, of-body, body-tree, same-bodies, bodies-same}
+pub use Rattle.term.proofs.Answers.{is-some, is-none, some-is, none-is}

@@ -11,4 +11,6 @@ mod Images
 mod Walks
 mod Answers
 mod Clauses
+mod Computed
+mod Settled
 pub mod Laws

@@ -1,0 +1,10 @@
+# The two commands of the project: `make run < FILE` and `make test`.
+.PHONY: run test
+
+run:
+	@echo 'make run: the program simplify is not built yet; only the layer of terms is here' >&2
+	@exit 1
+
+# Every crate proved, every must-fail edit refused, every program run, then the tests.
+test:
+	@bash tests/run
