@@ -7,7 +7,7 @@ use Prim.Native.Nat.{ℕ, zero, suc, _+_, _-_, _≤_, _<_}
 use native.Mathlib.Omega.{arith}
 use native.Mathlib.Nat.{zero-add, sub-zero, suc-sub-suc}
 use lib.Dec.{leb, eqb}
-use lib.ListN.{length, drop, replicate, length-replicate}
+use lib.ListN.{length, drop, replicate, length-replicate, length-append, length-drop}
 use lib.Seq.{sets, sets-eq}
 use borrow.Author.Tests.{le-leb, lt-leb, leb-true, eqb-true, eq-eqb}
 use Rattle.term.specs.declared.check.Checked.{Checked}
@@ -20,11 +20,12 @@ use Rattle.term.specs.Word.{pick}
 use Rattle.term.specs.Row.{Row, width, words, kinds, nesting, Formed, Got, read}
 use Rattle.term.specs.Check.{check, termLimits, IsTerm}
 use Rattle.term.specs.Renumber.{GoodList, goodList, idBody, renumber, named, toTerm, closed, toBody, idTermWithin, idsWithin}
-use Rattle.term.specs.Part.{ofTerm, part, bodyO, bodyOf, isSome, hasBody, sameWords, sameO, sameBody, written, padded, bodyAnswer, bodyWords, whole, givenBody, termAnswer, termWords}
+use Rattle.term.specs.Part.{partEnd, ofTerm, part, bodyO, bodyOf, isSome, hasBody, sameWords, sameO, sameBody, written, padded, bodyAnswer, bodyWords, whole, givenBody, termAnswer, termWords}
 use Rattle.term.specs.Walk.{Stands, RowTold, SameTold}
 use Rattle.term.proofs.Words.{never, and-left, and-right, and-both}
 use Rattle.term.proofs.Rows.{Reads, read-words, words-read, words-unique}
 use Rattle.term.proofs.Trees.{good-tree}
+use Rattle.term.proofs.Parts.{part-ends}
 use Rattle.term.proofs.Lists.{good-true, true-good}
 use Rattle.term.proofs.Renumbers.{length-renumber, width-renumber}
 use Rattle.term.proofs.Bodies.{closed-body, open-body, body-is, body-formed, body-keeps, within-same}
@@ -261,6 +262,27 @@ body-tree d ys ws b i = (
   body-formed d ys (i .list) (i .tree) b (i .stands .formed) (i .stands .low) (i .body),
   body-keeps d ys (i .tree) b (i .body) .wide ∙ i .stands .wide,
 )
+
+-- the body of a part of a term is a term, as long as the part
+pub part-body : (ws : List ℕ) → IsTerm ws → (at d : ℕ) (ys : List ℕ) (b : Row) → bodyOf d ys (drop at ws) ≡ some b → IsTerm (words b) × (length (words b) ≡ partEnd (drop at ws))
+part-body ws i at d ys b e = shown (body-of d ys (drop at ws) b e)
+  where
+    shown : BodyIs d ys (drop at ws) b → IsTerm (words b) × (length (words b) ≡ partEnd (drop at ws))
+    shown j =
+        let k = body-keeps d ys (j .tree) b (j .body) in
+        let t = body-tree d ys (drop at ws) b j in
+        let n : length (words (j .tree)) + length (j .after) ≡ length ws - at = sym (length-append (words (j .tree)) (j .after)) ∙ sym (ap length (j .stands .same)) ∙ length-drop at ws in (
+          record {
+            tree = b;
+            one = t .1;
+            formed = t .0;
+            few = omega (arith, k .kind, j .stands .few);
+            low = omega (arith, k .deep, j .stands .low);
+            short = omega (arith, k .long, n, i .short);
+            same = refl;
+          },
+          k .long ∙ sym (part-ends 64 (drop at ws) (j .tree) (j .after) (j .stands)),
+        )
 
 -- ---- two parts
 pub same-words : (ws vs : List ℕ) → sameWords ws vs ≡ true → ws ≡ vs

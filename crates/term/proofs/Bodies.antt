@@ -3,6 +3,7 @@ use mathlib.Core.Path.{_≡_, refl, sym, ap, ap₂, _∙_}
 use mathlib.Core.Bool.{Bool, true, false, _&&_}
 use mathlib.Core.List.{List, [], _∷_, _++_}
 use mathlib.Core.Option.{Option, none, some}
+use mathlib.Core.Logic.{_↔_}
 use Prim.Native.Nat.{ℕ, zero, suc, _+_, _-_, _≤_, _<_}
 use native.Mathlib.Omega.{arith}
 use lib.Dec.{leb}
@@ -110,14 +111,14 @@ module _ (d : ℕ) (ys : List ℕ) where
 
   -- the exact condition: only an outside id passes 65,535, and does so where i−k+d does
   pub term-id-passes : Listed d ys → (e i : ℕ) → e + d ≤ 65535 → i ≤ 65535
-      → (65535 < idTerm d ys e i → (e + length ys < i) × (65535 < i - length ys + d))
-  term-id-passes l e i s t h = go (case-of e (e + length ys) i)
+      → (65535 < idTerm d ys e i) ↔ (e + length ys < i) × (65535 < i - length ys + d)
+  term-id-passes l e i s t = (λ h. go (case-of e (e + length ys) i) h, λ h. rw (term-outside d ys e i (h .0)) (h .1))
     where
-      go : Case e (e + length ys) i → (e + length ys < i) × (65535 < i - length ys + d)
-      go (own a) = absurd (let x = rw (term-own d ys e i a) at h in omega arith)
-      go (inner a b) =
+      go : Case e (e + length ys) i → 65535 < idTerm d ys e i → (e + length ys < i) × (65535 < i - length ys + d)
+      go (own a) h = absurd (let x = rw (term-own d ys e i a) at h in omega arith)
+      go (inner a b) h =
           absurd (let x = rw (term-inner d ys e i a b) at h in let r = listed-range d ys l (i - e - 1) (omega arith) in omega arith)
-      go (outside a b) = (b, rw (term-outside d ys e i b) at h)
+      go (outside a b) h = (b, rw (term-outside d ys e i b) at h)
 
   -- ---- rows
   picked : (b : Bool) (x y : Row) → pick b (some x) none ≡ some y → (b ≡ true) × (x ≡ y)

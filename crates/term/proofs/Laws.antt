@@ -25,5 +25,5 @@ pub use Rattle.term.proofs.Bodies.{Keeps, body-keeps, term-keeps, body-
 -- A part has a body just where it is closed; closedness goes by the list as a set, and always holds where k = d.
 pub use Rattle.term.proofs.Bodies.{body-is, closed-body, open-body, closed-set, closed-all}
 -- The operations' words: what a body of a part is, and that two parts are the same just where their bodies are.
-pub use Rattle.term.proofs.Answers.{BodyIs, body-of, of-body, body-tree, same-bodies, bodies-same}
+pub use Rattle.term.proofs.Answers.{BodyIs, body-of, of-body, body-tree, part-body, same-bodies, bodies-same}
 pub use Rattle.term.proofs.Answers.{is-some, is-none, some-is, none-is}
