@@ -256,6 +256,11 @@ pub of-body : (d : ℕ) (ys ws : List ℕ) (b : Row) → BodyIs d ys ws b → bo
 unfolding bodyOf
 of-body d ys ws b i = rw (true-good d ys (i .list), part-stands ws (i .tree) (i .after) (i .stands)) (i .body)
 
+-- the body of the part that the words begin with, by the part
+pub body-stands : (d : ℕ) (ys ws : List ℕ) (t : Row) (after : List ℕ) → GoodList d ys → Stands 64 1 ws 0 t after → bodyOf d ys ws ≡ toBody d ys t
+unfolding bodyOf
+body-stands d ys ws t after g s = rw (true-good d ys g, part-stands ws t after s)
+
 -- it is one tree of the table, as long and as deep as the part
 pub body-tree : (d : ℕ) (ys ws : List ℕ) (b : Row) → BodyIs d ys ws b → Formed b × (width b ≡ 1)
 body-tree d ys ws b i = (
@@ -323,6 +328,10 @@ module _ (d : ℕ) (ys ws : List ℕ) (c : ℕ) (zs vs : List ℕ) where
           let t = body-tree c zs vs a (body-of c zs vs a j) in
           let x : a ≡ b = words-unique a b [] [] (t .0) (s .0) (t .1 ∙ sym (s .1)) (ap (λ (l : List ℕ). l ++ []) (sym (same-words (words b) (words a) q))) .0 in
           (b, refl, ap some x)
+
+  pub same-by-words : (b a : Row) → bodyOf d ys ws ≡ some b → bodyOf c zs vs ≡ some a → sameBody d ys ws c zs vs ≡ sameWords (words b) (words a)
+  unfolding sameBody
+  same-by-words b a i j = rw (i, j)
 
   pub bodies-same : (b : Row) → bodyOf d ys ws ≡ some b → bodyOf c zs vs ≡ some b → sameBody d ys ws c zs vs ≡ true
   unfolding sameBody

@@ -17,12 +17,12 @@ use Rattle.term.proofs.Lists.{position-is, position-at, listed-range, a
 use Rattle.term.proofs.Renumbers.{Every, implied, both, everywhere, shallow, agree, unmoved, twice, named-true, true-named, every-renumber, IsId, formed-ids, formed-renumber, formed-renumbered, width-renumber, length-renumber, nesting-renumber, kinds-renumber}
 
 -- ---- ids: the three cases, as laws
-data Case (e u i : ℕ) : Type 0 where
+pub data Case (e u i : ℕ) : Type 0 where
   own : i ≤ e → Case e u i
   inner : e < i → i ≤ u → Case e u i
   outside : e < i → u < i → Case e u i
 
-case-of : (e u i : ℕ) → Case e u i
+pub case-of : (e u i : ℕ) → Case e u i
 case-of e u i = go (leb i e) (leb i u) refl refl
   where
     go : (a b : Bool) → leb i e ≡ a → leb i u ≡ b → Case e u i

@@ -1,10 +1,85 @@
 -- The clauses of the definitions on rows, as equations, for a crate that does not open them.
 use mathlib.Core.Path.{_≡_, refl}
 use mathlib.Core.List.{List, [], _∷_, _++_}
-use Prim.Native.Nat.{ℕ, suc, max}
-use Rattle.term.specs.Word.{Head, kind, count, word, InTable}
+use Prim.Native.Nat.{ℕ, suc, max, _≤_}
+use Rattle.term.specs.Word.{Head, symbol, abstraction, variable, pattern, kind, count, ident, word, InTable}
 use Rattle.term.specs.Row.{Row, nothing, node, width, words, nesting, kinds, Formed, _⧺_}
 use Rattle.term.specs.Renumber.{inside, renumberHead, renumber, toTerm, idTerm}
+
+pub kind-symbol : (i c : ℕ) → kind (symbol i c) ≡ 0
+unfolding kind
+kind-symbol i c = refl
+
+pub kind-abstraction : kind abstraction ≡ 1
+unfolding kind
+kind-abstraction = refl
+
+pub kind-variable : (i : ℕ) → kind (variable i) ≡ 2
+unfolding kind
+kind-variable i = refl
+
+pub kind-pattern : (i c : ℕ) → kind (pattern i c) ≡ 3
+unfolding kind
+kind-pattern i c = refl
+
+pub count-symbol : (i c : ℕ) → count (symbol i c) ≡ c
+unfolding count
+count-symbol i c = refl
+
+pub count-abstraction : count abstraction ≡ 1
+unfolding count
+count-abstraction = refl
+
+pub count-variable : (i : ℕ) → count (variable i) ≡ 0
+unfolding count
+count-variable i = refl
+
+pub count-pattern : (i c : ℕ) → count (pattern i c) ≡ c
+unfolding count
+count-pattern i c = refl
+
+pub ident-variable : (i : ℕ) → ident (variable i) ≡ i
+unfolding ident
+ident-variable i = refl
+
+pub ident-pattern : (i c : ℕ) → ident (pattern i c) ≡ i
+unfolding ident
+ident-pattern i c = refl
+
+pub inside-symbol : (i c e : ℕ) → inside (symbol i c) e ≡ e
+unfolding inside
+inside-symbol i c e = refl
+
+pub inside-abstraction : (e : ℕ) → inside abstraction e ≡ suc e
+unfolding inside
+inside-abstraction e = refl
+
+pub inside-pattern : (x c e : ℕ) → inside (pattern x c) e ≡ e
+unfolding inside
+inside-pattern x c e = refl
+
+pub ruleset head-clauses = (
+  kind-symbol,
+  kind-abstraction,
+  kind-variable,
+  kind-pattern,
+  count-symbol,
+  count-abstraction,
+  count-variable,
+  count-pattern,
+  ident-variable,
+  ident-pattern,
+  inside-symbol,
+  inside-abstraction,
+)
+
+pub pattern-few : (x c : ℕ) → InTable (pattern x c) → (c ≤ 4) × (x ≤ 15)
+unfolding InTable
+pattern-few x c t = t
+
+pub abstraction-in-table : InTable abstraction
+unfolding InTable
+abstraction-in-table = tt
 
 pub words-nothing : words nothing ≡ []
 unfolding words

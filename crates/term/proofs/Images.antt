@@ -182,3 +182,7 @@ same-image m n e (variable i) abstraction s t k l q = absurd (omega arith)
 same-image m n e (variable i) (variable j) s t k l q = let x : m e i ≡ n e j = omega arith in ap variable x
 same-image m n e (variable i) (pattern j b) s t k l q = absurd (omega arith)
 same-image m n e (pattern i c) g s t k l q = absurd (omega arith)
+
+-- the head of a word of kind 2
+pub variable-word : (w : ℕ) → kindOr 4 (headOf w) ≡ 2 → headOf w ≡ some (variable (identOf w))
+variable-word w e = variable-is (λ e i. i) 0 w (headOf w) (word-head w) e

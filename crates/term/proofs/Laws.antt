@@ -1,8 +1,12 @@
 -- What a crate above may cite of this one, and nothing else.
 
+-- Tests.
+pub use Rattle.term.proofs.Words.{never, and-left, and-right, and-both}
 -- Heads and words: a head of the table is read back from its word, and a word that is read gives itself back.
 pub use Rattle.term.proofs.Words.{head-word, head-is, kind-word, count-word, ident-word}
+pub use Rattle.term.proofs.Images.{variable-word, inside-is, inside-small}
 -- Rows: the clauses of their definitions, and rows side by side.
+pub use Rattle.term.proofs.Clauses.{kind-symbol, kind-abstraction, kind-variable, kind-pattern, count-symbol, count-abstraction, count-variable, count-pattern, ident-variable, ident-pattern, inside-symbol, inside-abstraction, inside-pattern, head-clauses, abstraction-in-table, pattern-few}
 pub use Rattle.term.proofs.Clauses.{words-nothing, words-node, width-nothing, width-node, nesting-nothing, nesting-node, kinds-nothing, kinds-node, join-nothing-left, join-node, row-clauses, FormedNode, formed-nothing, formed-node, node-formed}
 pub use Rattle.term.proofs.Rows.{join-nothing, join-join, width-join, words-join, nesting-join, kinds-join, formed-join}
 -- Words are uniquely readable, both ways.
@@ -13,11 +17,11 @@ pub use Rattle.term.proofs.Trees.{tree-good, good-tree}
 pub use Rattle.term.proofs.Parts.{part-begins, stands-term, part-ends, past-words}
 pub use Rattle.term.proofs.Answers.{part-stands, part-is, term-part}
 -- Lists: the test says what it tests; as many ids as d are all of them.
-pub use Rattle.term.proofs.Lists.{good-true, true-good, at-most, all-there, position-is, position-at, listed-range}
+pub use Rattle.term.proofs.Lists.{suffix, good-true, true-good, at-most, all-there, position-is, position-at, listed-range}
 -- Renumbering of ids, by document 01's three cases, and of rows, variable by variable.
 pub use Rattle.term.proofs.Bodies.{term-own, term-inner, term-outside, body-own, body-inner, body-outside, back-to-body, back-to-term, body-id-within, term-id-some, term-id-passes}
 pub use Rattle.term.proofs.Clauses.{renumber-nothing, renumber-node, term-is}
-pub use Rattle.term.proofs.Renumbers.{Every, implied, both, everywhere, shallow, agree, unmoved, twice, renumber-join, IsId, formed-ids, formed-renumber, formed-renumbered}
+pub use Rattle.term.proofs.Renumbers.{Every, implied, both, everywhere, shallow, agree, unmoved, twice, renumber-join, inside-le, IsId, formed-ids, formed-renumber, formed-renumbered}
 -- Body to term and back, term to body and back.
 pub use Rattle.term.proofs.Bodies.{body-term, term-body}
 -- A body is formed, as long and as deep as its part; a term of a body too, and formed just where no id passes 65,535.
@@ -25,5 +29,8 @@ pub use Rattle.term.proofs.Bodies.{Keeps, body-keeps, term-keeps, body-
 -- A part has a body just where it is closed; closedness goes by the list as a set, and always holds where k = d.
 pub use Rattle.term.proofs.Bodies.{body-is, closed-body, open-body, closed-set, closed-all}
 -- The operations' words: what a body of a part is, and that two parts are the same just where their bodies are.
-pub use Rattle.term.proofs.Answers.{BodyIs, body-of, of-body, body-tree, part-body, same-bodies, bodies-same}
+pub use Rattle.term.proofs.Answers.{BodyIs, body-of, of-body, body-stands, body-tree, part-body, same-bodies, same-by-words, bodies-same}
 pub use Rattle.term.proofs.Answers.{is-some, is-none, some-is, none-is}
+pub use Rattle.term.proofs.Answers.{same-words, words-same}
+-- A row with a term's words is that term, also where its ids might pass the limit.
+pub use Rattle.term.proofs.Near.{Near, near-unique, near-nothing, near-node, near-join, term-near}

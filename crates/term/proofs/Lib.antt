@@ -6,6 +6,7 @@ mod Trees
 mod Lists
 mod Renumbers
 mod Bodies
+mod Near
 mod Parts
 mod Images
 mod Walks

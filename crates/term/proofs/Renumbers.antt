@@ -63,7 +63,7 @@ module _ (m : ℕ → ℕ → ℕ) where
   renumber-join e (node h kids rest) g = ap (node (renumberHead m e h) (renumber m (inside h e) kids)) (renumber-join e rest g)
 
 -- ---- every variable i under e abstractions of the row's own
-abbrev EveryHead : (ℕ → ℕ → Type 0) → ℕ → Head → Type 0
+abbrev pub EveryHead : (ℕ → ℕ → Type 0) → ℕ → Head → Type 0
 EveryHead P e (symbol i c) = Unit {0}
 EveryHead P e abstraction = Unit {0}
 EveryHead P e (variable i) = P e i
@@ -108,7 +108,7 @@ everywhere P f e nothing = tt
 everywhere P f e (node h kids rest) = (everywhere-head P f e h, everywhere P f (inside h e) kids, everywhere P f e rest)
 
 -- a variable lies under fewer abstractions than the row nests
-inside-le : (h : Head) (e : ℕ) → inside h e ≤ suc e
+pub inside-le : (h : Head) (e : ℕ) → inside h e ≤ suc e
 unfolding inside
 inside-le (symbol i c) e = omega arith
 inside-le abstraction e = omega arith

@@ -4,3 +4,4 @@ pub mod Check
 pub mod Renumber
 pub mod Part
 pub mod Walk
+pub mod Answer

@@ -1,4 +1,5 @@
 // Terms as words in prefix order: document 01's "Words" and "Renumbering".
+pub mod answer;
 pub mod check;
 pub mod lent;
 pub mod list;

@@ -1,0 +1,4 @@
+mod Counts
+mod IdLoop
+mod SideLaws
+pub mod Laws

@@ -1,0 +1,61 @@
+-- `ids::ids_of` meets its contract: what is left of the words gives the ids.
+use borrow.Author.Needs.{needs}
+use native.Mathlib.Omega.{arith}
+use mathlib.Core.Path.{_≡_, refl, sym, _∙_}
+use Prim.Native.Nat.{ℕ, _-_, _≤_}
+use mathlib.Core.List.{[], _∷_}
+use lib.ListN.{length}
+use Rattle.book.proofs.IdLoop.{Sofar, ids-start, ids-ended, ids-short, ids-other, ids-more, ids-many}
+use Rattle.book.proofs.ids.ids_of.Statement.{statement}
+use Rattle.book.proofs.ids.ids_of.Tie as tie
+
+abbrev Inv-loop : tie.InvT-loop
+Inv-loop words k ids₀ j₀ ids j =
+    (few : k ≤ 4) × Sofar k words few j ids
+
+abbrev μ-loop : tie.MeasureT-loop
+μ-loop words k ids₀ j₀ ids j = k - j
+
+loop-holds : tie.Need-loop-holds Inv-loop μ-loop
+loop-holds c = (c .if1 .left, ids-start _ _ (c .if1 .left) (0 ∷ 0 ∷ 0 ∷ 0 ∷ []) refl)
+
+returns-2 : tie.Need-returns-2 Inv-loop μ-loop
+returns-2 c =
+    ids-short _ _ (c .before .before .loop .inv .0) _ _ (c .before .before .loop .inv .1) (c .before .loop-test .taken) (c .if2 .taken)
+
+returns-3 : tie.Need-returns-3 Inv-loop μ-loop
+returns-3 c =
+    ids-other _ _ (c .before .before .before .before .before .loop .inv .0) _ _ (c .before .before .before .before .before .loop .inv .1) (c .before .before .before .before .loop-test .taken) (c .before .before .before .if2 .left)
+    (λ e. c .if3 .taken (c .before .table-kind .ensures ∙ e))
+
+array-write-ids : tie.Need-array-write-ids Inv-loop μ-loop
+array-write-ids c =
+    omega (arith, c .before .before .before .before .before .loop .inv .0, c .before .before .before .before .before .loop .inv .1 .0, c .before .before .before .before .loop-test .taken)
+
+loop-again : tie.Need-loop-again Inv-loop μ-loop
+loop-again c = (
+  c .before .before .before .before .before .loop .inv .0,
+  ids-more _ _ (c .before .before .before .before .before .loop .inv .0) _ _ (c .before .before .before .before .before .loop .inv .1) (c .before .before .before .before .loop-test .taken) (c .before .before .before .if2 .left)
+      (sym (c .before .table-kind .ensures) ∙ c .if3 .left),
+)
+
+returns-4 : tie.Need-returns-4 Inv-loop μ-loop
+returns-4 c = ids-ended _ _ (c .before .loop .inv .0) _ _ (c .before .loop .inv .1) (c .loop-test .left)
+
+pub ids-of-spec : {M : Type 1} → statement M
+ids-of-spec =
+    tie.close
+    (tie.spec Inv-loop μ-loop
+    (λ c. ids-many _ _ _ (c .if1 .taken))
+    loop-holds
+    returns-2
+    (λ c. omega arith)
+    (λ c. omega arith)
+    (λ c κs. search needs)
+    returns-3
+    (λ c. omega arith)
+    array-write-ids
+    (λ c. omega arith)
+    (λ c. omega arith)
+    loop-again
+    returns-4)

@@ -1,0 +1,12 @@
+-- `variables::is_variable` meets its contract.
+use borrow.Author.Needs.{needs}
+use borrow.Author.Tests.{eq-eqb, ne-eqb}
+use Rattle.book.proofs.variables.is_variable.Statement.{statement}
+use Rattle.book.proofs.variables.is_variable.Tie as tie
+
+pub is-variable-spec : {M : Type 1} → statement M
+is-variable-spec =
+    tie.close
+    (tie.spec
+    (λ c. rw (ne-eqb _ _ (c .if1 .taken)))
+    (λ c. rw (eq-eqb _ _ (c .if1 .left))))

@@ -1,0 +1,4 @@
+pub mod Rule
+pub mod Ids
+pub mod Book
+pub mod Shape

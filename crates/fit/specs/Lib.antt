@@ -1,0 +1,5 @@
+pub mod Left
+pub mod Fit
+pub mod Constraint
+pub mod Match
+pub mod Lowest

@@ -1,0 +1,28 @@
+-- Document 01, "Numbers it answers with": the number and the place of each answer.
+use Prim.Native.Nat.{ℕ}
+use Rattle.term.specs.declared.answer.Answer.{Answer}
+use Rattle.term.specs.declared.answer.Answer.the-variants.{Done, NoFit, BudgetUsed, BadText, BadTerm, BadBook, Short, Damaged, Over, NoRule}
+
+abbrev pub numberOf : Answer → ℕ
+numberOf Done = 0
+numberOf NoFit = 1
+numberOf BudgetUsed = 2
+numberOf (BadText at) = 10
+numberOf (BadTerm at) = 11
+numberOf (BadBook at) = 12
+numberOf Short = 13
+numberOf (Damaged at) = 14
+numberOf Over = 15
+numberOf (NoRule at) = 16
+
+abbrev pub placeOf : Answer → ℕ
+placeOf Done = 0
+placeOf NoFit = 0
+placeOf BudgetUsed = 0
+placeOf (BadText at) = at
+placeOf (BadTerm at) = at
+placeOf (BadBook at) = at
+placeOf Short = 0
+placeOf (Damaged at) = at
+placeOf Over = 0
+placeOf (NoRule at) = at
