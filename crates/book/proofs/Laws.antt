@@ -1,15 +1,14 @@
--- What a crate above may cite of this one.
-use mathlib.Core.Path.{_≡_, refl}
-use mathlib.Core.Option.{some}
-use mathlib.Core.List.{[]}
-use Rattle.term.specs.Word.{Head}
-use Rattle.term.specs.Row.{Row, nothing, node}
-use Rattle.book.specs.Rule.{idBefore, idsOf}
+-- What a crate above may cite of this one, and nothing else.
 
-pub ids-nothing : idsOf nothing ≡ some []
-unfolding idsOf
-ids-nothing = refl
-
-pub ids-node : (h : Head) (kids rest : Row) → idsOf (node h kids rest) ≡ idBefore h (idsOf rest)
-unfolding idsOf
-ids-node h kids rest = refl
+-- Rules: the clauses of what is asked of their sides.
+pub use Rattle.book.proofs.Clauses.{ids-nothing, ids-node, left-nothing, left-symbol, left-abstraction, left-variable, left-pattern, root-nothing, root-symbol, root-abstraction, root-variable, root-pattern, right-nothing, right-symbol, right-abstraction, right-variable, right-pattern, rule-clauses}
+-- The list of a pattern variable: what the operations find is the row's, which has as many words as trees.
+pub use Rattle.book.proofs.SideLaws.{ids-row}
+pub use Rattle.book.proofs.IdLoop.{told-list}
+pub use Rattle.book.proofs.Listing.{told-no-ids, ids-counted, list-row, list-found, list-counted}
+-- Pattern variables of a row: the clauses, and that they are those of its words.
+pub use Rattle.book.proofs.Occurrences.{occurs-nothing, occurs-node, below-nothing, below-node, counts-nothing, counts-node, occurs-is, below-is, counts-is, counted-occurs, occurs-counted}
+-- A good rule, and the rules of a good book.
+pub use Rattle.book.proofs.Rules.{RuleFacts, good-facts, book-rule, book-rules, number-rule, rule-number, beyond-none}
+-- Where the sides of a rule lie, both ways.
+pub use Rattle.book.proofs.Rules.{SidesAre, sides-rule, sides-none, rule-sides, none-sides}

@@ -1,4 +1,10 @@
 mod Counts
 mod IdLoop
 mod SideLaws
+mod Clauses
+mod Listing
+mod Sides
+mod Places
+mod Occurrences
+mod Rules
 pub mod Laws

@@ -1,4 +1,6 @@
 // Books of rules in memory: document 01's "The book".
+pub mod book;
 pub mod ids;
-pub mod shape;
-pub mod variables;
+mod rule;
+mod shape;
+mod variables;

@@ -9,5 +9,6 @@ pub use Rattle.fit.proofs.Words.{same-term, sound, complete, unique, no
 pub use Rattle.fit.proofs.Matching.{matched-built, built-matched}
 -- A left side's shape and its constraints hold together exactly where it fits.
 pub use Rattle.fit.proofs.Constraints.{There, AllThere, all-there, isMatch, fits-constraints}
--- The lowest rule that fits.
+-- The lowest rule that fits, of the rules of an accepted book.
 pub use Rattle.fit.proofs.Lowest.{NoFit, LowestIs, lowest-is}
+pub use Rattle.fit.proofs.Accepted.{tree-of, accepted-good, book-lowest}

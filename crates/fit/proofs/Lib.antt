@@ -6,5 +6,6 @@ mod Places
 mod Constraints
 mod Words
 mod Lowest
+mod Accepted
 mod Computed
 pub mod Laws
