@@ -4,8 +4,8 @@
 pub use Rattle.book.proofs.Clauses.{ids-nothing, ids-node, left-nothing, left-symbol, left-abstraction, left-variable, left-pattern, root-nothing, root-symbol, root-abstraction, root-variable, root-pattern, right-nothing, right-symbol, right-abstraction, right-variable, right-pattern, rule-clauses}
 -- The list of a pattern variable: what the operations find is the row's, which has as many words as trees.
 pub use Rattle.book.proofs.SideLaws.{ids-row}
-pub use Rattle.book.proofs.IdLoop.{told-list}
-pub use Rattle.book.proofs.Listing.{told-no-ids, ids-counted, list-row, list-found, list-counted}
+pub use Rattle.book.proofs.IdLoop.{told-list, told-none}
+pub use Rattle.book.proofs.Listing.{ids-counted, list-row, list-found, list-counted}
 -- Pattern variables of a row: the clauses, and that they are those of its words.
 pub use Rattle.book.proofs.Occurrences.{occurs-nothing, occurs-node, below-nothing, below-node, counts-nothing, counts-node, occurs-is, below-is, counts-is, counted-occurs, occurs-counted}
 -- A good rule, and the rules of a good book.

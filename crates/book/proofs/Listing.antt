@@ -13,7 +13,7 @@ use Rattle.term.specs.Row.{Row, nothing, node, width, words, Formed}
 use Rattle.term.specs.Renumber.{goodList}
 use Rattle.term.proofs.Laws.{never, width-nothing, width-node, formed-node, good-true}
 use Rattle.book.specs.Rule.{idBefore, idsOf, listFor}
-use Rattle.book.specs.Ids.{variableIds, listIn, IdsTold}
+use Rattle.book.specs.Ids.{variableIds, listIn}
 use Rattle.book.proofs.SideLaws.{ids-row, ids-length}
 
 -- an id for each tree
@@ -66,8 +66,3 @@ list-found kids f few after = rw (le-leb (width kids) 4 few) (ids-row kids after
 
 pub list-counted : (d : ℕ) (kids : Row) → Formed kids → listFor d (idsOf kids) ≡ true → length (words kids) ≡ width kids
 list-counted d kids f e = let s = list-some d (idsOf kids) e in ids-counted kids f (s .0) (s .1) .1
-
-pub told-no-ids : (k : ℕ) (ws ids : List ℕ) (all : Bool) → IdsTold k ws ids all → all ≡ false → listIn k ws ≡ none
-unfolding IdsTold
-told-no-ids k ws ids true t e = never (cc)
-told-no-ids k ws ids false t e = t

@@ -1,10 +1,9 @@
 -- The list of a pattern variable, in words: the ids of the variables that follow it.
-use Prim.Native.Nat.{ℕ, zero, suc, _≤_}
-use mathlib.Core.Path.{_≡_}
+use Prim.Native.Nat.{ℕ, zero, suc, _-_}
 use mathlib.Core.Bool.{Bool, true, false}
-use mathlib.Core.List.{List, [], _∷_}
+use mathlib.Core.List.{List, [], _∷_, _++_}
 use mathlib.Core.Option.{Option, none, some}
-use lib.ListN.{length, take}
+use lib.ListN.{length, replicate}
 use lib.Dec.{leb}
 use Rattle.term.specs.Word.{Head, pick, headOf}
 use Rattle.book.specs.Rule.{idBefore}
@@ -23,7 +22,11 @@ variableIds (suc k) (w ∷ ws) = idBeforeO (headOf w) (variableIds k ws)
 unfoldable pub listIn : ℕ → List ℕ → Option (List ℕ)
 listIn k ws = pick (leb k 4) (variableIds k ws) none
 
--- what is told of them: four words of which the first k are the ids, and whether there are so many
-unfoldable pub IdsTold : ℕ → List ℕ → List ℕ → Bool → Type 0
-IdsTold k ws ids true = (listIn k ws ≡ some (take k ids)) × (length ids ≡ 4)
-IdsTold k ws ids false = listIn k ws ≡ none
+abbrev pub isList : Option (List ℕ) → Bool
+isList none = false
+isList (some ys) = true
+
+-- four words: the ids and then zeros; zeros where there is no list
+unfoldable pub fourOf : Option (List ℕ) → List ℕ
+fourOf none = replicate 4 0
+fourOf (some ys) = ys ++ replicate (4 - length ys) 0

@@ -1,6 +1,8 @@
 // The list of a pattern variable.
 ghost use mathlib.Core.Path.{_≡_};
-ghost use Rattle.book.specs.Ids.{IdsTold, listIn};
+ghost use mathlib.Core.Bool.{false};
+ghost use mathlib.Core.Option.{none};
+ghost use Rattle.book.specs.Ids.{listIn, isList, fourOf};
 ghost use Rattle.book.specs.Rule.{listFor};
 use term::list::MOST_IDS;
 use term::list::good_list;
@@ -8,28 +10,37 @@ use term::word::COUNT;
 use term::word::VARIABLE;
 use term::word::table_kind;
 
-// Four words, and whether the first of them are the ids that were asked for.
+// The ids and then zeros, and whether all that were asked for are there; zeros where they are not.
 pub struct Ids {
     pub ids: [u32; 4],
     pub all: bool,
 }
 
+fn no_ids() -> Ids
+    ensures { λ r. ⌜ (r .ids ≡ fourOf none) × (r .all ≡ false) ⌝ }
+{
+    Ids {
+        ids: [0u32; 4],
+        all: false,
+    }
+}
+
 // The ids of the k variables that the words begin with.
 pub fn ids_of(words: &[u32], k: usize) -> Ids
-    ensures { λ r. ⌜ IdsTold k (now (words .entry)) (r .ids) (r .all) ⌝ }
+    ensures { λ r. ⌜ (r .ids ≡ fourOf (listIn k (now (words .entry)))) × (r .all ≡ isList (listIn k (now (words .entry)))) ⌝ }
 {
-    let mut ids = [0u32; 4];
     if MOST_IDS < k {
-        return Ids { ids, all: false };
+        return no_ids();
     }
+    let mut ids = [0u32; 4];
     let mut j: usize = 0;
     while j < k {
         if words.len() <= j {
-            return Ids { ids, all: false };
+            return no_ids();
         }
         let w = words[j];
         if table_kind(w) != VARIABLE {
-            return Ids { ids, all: false };
+            return no_ids();
         }
         ids[j] = w % COUNT;
         j += 1;

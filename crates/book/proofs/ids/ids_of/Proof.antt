@@ -5,7 +5,7 @@ use mathlib.Core.Path.{_≡_, refl, sym, _∙_}
 use Prim.Native.Nat.{ℕ, _-_, _≤_}
 use mathlib.Core.List.{[], _∷_}
 use lib.ListN.{length}
-use Rattle.book.proofs.IdLoop.{Sofar, ids-start, ids-ended, ids-short, ids-other, ids-more, ids-many}
+use Rattle.book.proofs.IdLoop.{Sofar, no-list, ids-start, ids-ended, ids-short, ids-other, ids-more, ids-many}
 use Rattle.book.proofs.ids.ids_of.Statement.{statement}
 use Rattle.book.proofs.ids.ids_of.Tie as tie
 
@@ -16,17 +16,17 @@ Inv-loop words k ids₀ j₀ ids j =
 abbrev μ-loop : tie.MeasureT-loop
 μ-loop words k ids₀ j₀ ids j = k - j
 
-loop-holds : tie.Need-loop-holds Inv-loop μ-loop
-loop-holds c = (c .if1 .left, ids-start _ _ (c .if1 .left) (0 ∷ 0 ∷ 0 ∷ 0 ∷ []) refl)
+returns : tie.Need-returns Inv-loop μ-loop
+returns c = no-list _ _ _ _ (c .no-ids .ensures) (ids-many _ _ (c .before .if1 .taken))
 
 returns-2 : tie.Need-returns-2 Inv-loop μ-loop
 returns-2 c =
-    ids-short _ _ (c .before .before .loop .inv .0) _ _ (c .before .before .loop .inv .1) (c .before .loop-test .taken) (c .if2 .taken)
+    no-list _ _ _ _ (c .no-ids2 .ensures) (ids-short _ _ (c .before .before .before .loop .inv .0) _ _ (c .before .before .before .loop .inv .1) (c .before .before .loop-test .taken) (c .before .if2 .taken))
 
 returns-3 : tie.Need-returns-3 Inv-loop μ-loop
 returns-3 c =
-    ids-other _ _ (c .before .before .before .before .before .loop .inv .0) _ _ (c .before .before .before .before .before .loop .inv .1) (c .before .before .before .before .loop-test .taken) (c .before .before .before .if2 .left)
-    (λ e. c .if3 .taken (c .before .table-kind .ensures ∙ e))
+    no-list _ _ _ _ (c .no-ids3 .ensures) (ids-other _ _ (c .before .before .before .before .before .before .loop .inv .0) _ _ (c .before .before .before .before .before .before .loop .inv .1) (c .before .before .before .before .before .loop-test .taken) (c .before .before .before .before .if2 .left)
+    (λ e. c .before .if3 .taken (c .before .before .table-kind .ensures ∙ e)))
 
 array-write-ids : tie.Need-array-write-ids Inv-loop μ-loop
 array-write-ids c =
@@ -46,16 +46,19 @@ pub ids-of-spec : {M : Type 1} → statement M
 ids-of-spec =
     tie.close
     (tie.spec Inv-loop μ-loop
-    (λ c. ids-many _ _ _ (c .if1 .taken))
-    loop-holds
+    (λ c κs. search needs)
+    returns
+    (λ c. (c .if1 .left, ids-start _ _ (c .if1 .left)))
+    (λ c κs. search needs)
     returns-2
-    (λ c. omega arith)
-    (λ c. omega arith)
+    (λ c. search needs)
+    (λ c. search needs)
+    (λ c κs. search needs)
     (λ c κs. search needs)
     returns-3
-    (λ c. omega arith)
+    (λ c. search needs)
     array-write-ids
-    (λ c. omega arith)
-    (λ c. omega arith)
+    (λ c. search needs)
+    (λ c. search needs)
     loop-again
     returns-4)

@@ -5,12 +5,12 @@ use native.Mathlib.Omega.{arith}
 use mathlib.Core.Path.{_≡_, sym, ap, _∙_}
 use lib.Seq.{length-take-le}
 use Rattle.book.specs.Rule.{listFor}
-use Rattle.book.proofs.IdLoop.{told-list, told-none, many-none}
+use Rattle.book.proofs.IdLoop.{told-list, told-none, ids-many}
 use Rattle.book.proofs.ids.list_for.Statement.{statement}
 use Rattle.book.proofs.ids.list_for.Tie as tie
 
 returns : tie.Need-returns
-returns c = told-none _ _ _ _ _ (c .before .ids-of .ensures) (not-true _ (c .if1 .taken))
+returns c = sym (ap (listFor _) (told-none _ _ _ _ (c .before .ids-of .ensures) (not-true _ (c .if1 .taken))))
 
 array-share-prefix-ids : tie.Need-array-share-prefix-ids
 array-share-prefix-ids c =
@@ -30,7 +30,7 @@ list-for-spec =
     (tie.spec
     (λ c κs. search needs)
     returns
-    (λ c. many-none _ _ _ (c .if2 .taken))
+    (λ c. sym (ap (listFor _) (ids-many _ _ (c .if2 .taken))))
     array-share-prefix-ids
     slice-aggregate-good-list
     (λ c κs. search needs)
