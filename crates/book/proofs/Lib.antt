@@ -7,4 +7,5 @@ mod Sides
 mod Places
 mod Occurrences
 mod Rules
+mod Computed
 pub mod Laws
