@@ -124,17 +124,17 @@ ids-many k ws h = rw (lt-leb k 4 h)
 
 -- what was told, for a caller
 module _ (k : ℕ) (ws ids : List ℕ) (all : Bool) (t : (ids ≡ fourOf (listIn k ws)) × (all ≡ isList (listIn k ws))) where
-  pub told-list : all ≡ true → (listIn k ws ≡ some (take k ids)) × (length ids ≡ 4)
+  pub told-list : all ≡ true → (listIn k ws ≡ some (take k ids)) × (length ids ≡ 4) × (k ≤ 4)
   unfolding fourOf
   told-list e = go (listIn k ws) refl (t .0) (sym (t .1) ∙ e)
     where
-      go : (o : Option (List ℕ)) → listIn k ws ≡ o → ids ≡ fourOf o → isList o ≡ true → (o ≡ some (take k ids)) × (length ids ≡ 4)
+      go : (o : Option (List ℕ)) → listIn k ws ≡ o → ids ≡ fourOf o → isList o ≡ true → (o ≡ some (take k ids)) × (length ids ≡ 4) × (k ≤ 4)
       go none q i z = never (cc)
       go (some ys) q i z =
           let l = list-length k ws ys q in
           let n : length (ys ++ replicate (4 - length ys) 0) ≡ 4 =
           length-append ys (replicate (4 - length ys) 0) ∙ rw (length-replicate {A = ℕ} (4 - length ys) 0) (omega (arith, l .0, l .1)) in
-          (ap some (sym (ap (take k) i ∙ take-at ys (replicate (4 - length ys) 0) k (l .0))), ap length i ∙ n)
+          (ap some (sym (ap (take k) i ∙ take-at ys (replicate (4 - length ys) 0) k (l .0))), ap length i ∙ n, l .1)
 
   pub told-none : all ≡ false → listIn k ws ≡ none
   told-none e = go (listIn k ws) (sym (t .1) ∙ e)

@@ -10,14 +10,14 @@ use Rattle.term.specs.Word.{Head, symbol, abstraction, variable, pattern, pick,
 use Rattle.term.specs.Row.{Row, nothing, node, words, Formed}
 use Rattle.term.proofs.Laws.{words-nothing, words-node, formed-node, kind-word, count-word, ident-word, kind-symbol, kind-abstraction, kind-variable, kind-pattern, count-pattern, ident-pattern}
 use Rattle.book.specs.Rule.{counted, oneCount, noOther}
-use Rattle.book.specs.Occurs.{isHead, occursIn, belowHead, belowVars, countsHead, countsAs}
+use Rattle.book.specs.Occurs.{isPattern, occursIn, belowHead, belowVars, countsHead, countsAs}
 
 -- ---- the clauses
 pub occurs-nothing : (x : ℕ) → occursIn x nothing ≡ false
 unfolding occursIn
 occurs-nothing x = refl
 
-pub occurs-node : (x : ℕ) (h : Head) (kids rest : Row) → occursIn x (node h kids rest) ≡ isHead x h || (occursIn x kids || occursIn x rest)
+pub occurs-node : (x : ℕ) (h : Head) (kids rest : Row) → occursIn x (node h kids rest) ≡ isPattern x h || (occursIn x kids || occursIn x rest)
 unfolding occursIn
 occurs-node x h kids rest = refl
 
@@ -38,11 +38,11 @@ unfolding countsAs
 counts-node left h kids rest = refl
 
 -- ---- a word
-isHead-word : (x : ℕ) (h : Head) → InTable h → eqb (kindOf (word h)) 3 && eqb (identOf (word h)) x ≡ isHead x h
-isHead-word x (symbol i c) t = rw (kind-word (symbol i c) t, kind-symbol i c)
-isHead-word x abstraction t = rw (kind-word abstraction t, kind-abstraction)
-isHead-word x (variable i) t = rw (kind-word (variable i) t, kind-variable i)
-isHead-word x (pattern i c) t = rw (kind-word (pattern i c) t, kind-pattern i c, ident-word (pattern i c) t, ident-pattern i c)
+is-pattern-word : (x : ℕ) (h : Head) → InTable h → eqb (kindOf (word h)) 3 && eqb (identOf (word h)) x ≡ isPattern x h
+is-pattern-word x (symbol i c) t = rw (kind-word (symbol i c) t, kind-symbol i c)
+is-pattern-word x abstraction t = rw (kind-word abstraction t, kind-abstraction)
+is-pattern-word x (variable i) t = rw (kind-word (variable i) t, kind-variable i)
+is-pattern-word x (pattern i c) t = rw (kind-word (pattern i c) t, kind-pattern i c, ident-word (pattern i c) t, ident-pattern i c)
 
 below-word : (vars : ℕ) (h : Head) (rest : Bool) → InTable h → pick (eqb (kindOf (word h)) 3) (ltb (identOf (word h)) vars && rest) rest ≡ belowHead vars h && rest
 below-word vars (symbol i c) rest t = rw (kind-word (symbol i c) t, kind-symbol i c)
@@ -108,7 +108,7 @@ occurs-is x (node h kids rest) p =
     let n = formed-node h kids rest p in
     rw (words-node h kids rest)
     (one-counted x (word h) (words kids ++ words rest)
-    ∙ rw (counted-append x (words kids) (words rest), isHead-word x h (n .table), occurs-is x kids (n .below), occurs-is x rest (n .beside)))
+    ∙ rw (counted-append x (words kids) (words rest), is-pattern-word x h (n .table), occurs-is x kids (n .below), occurs-is x rest (n .beside)))
 
 pub below-is : (vars : ℕ) (f : Row) → Formed f → noOther vars (words f) ≡ belowVars vars f
 unfolding noOther belowVars

@@ -8,16 +8,16 @@ use Rattle.term.specs.Row.{Row, nothing, node}
 use Rattle.book.specs.Rule.{counted}
 
 -- a head is the variable x
-abbrev pub isHead : ℕ → Head → Bool
-isHead x (symbol i c) = false
-isHead x abstraction = false
-isHead x (variable i) = false
-isHead x (pattern i c) = eqb i x
+abbrev pub isPattern : ℕ → Head → Bool
+isPattern x (symbol i c) = false
+isPattern x abstraction = false
+isPattern x (variable i) = false
+isPattern x (pattern i c) = eqb i x
 
 -- the variable x is in the row
 unfoldable pub occursIn : ℕ → Row → Bool
 occursIn x nothing = false
-occursIn x (node h kids rest) = isHead x h || (occursIn x kids || occursIn x rest)
+occursIn x (node h kids rest) = isPattern x h || (occursIn x kids || occursIn x rest)
 
 abbrev pub belowHead : ℕ → Head → Bool
 belowHead vars (symbol i c) = true

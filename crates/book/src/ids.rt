@@ -57,9 +57,6 @@ pub fn list_for(words: &[u32], k: usize, d: u32) -> bool
     if !all {
         return false;
     }
-    if MOST_IDS < k {
-        return false;
-    }
     let ids = found.ids;
     good_list(d, &ids[..k])
 }

@@ -15,7 +15,7 @@ use Rattle.term.specs.Check.{Limits, IsTree, IsTerm}
 use Rattle.term.specs.Renumber.{goodList, GoodList}
 use Rattle.term.proofs.Laws.{never, and-left, and-right, read-words, width-nothing, width-node, nesting-nothing, nesting-node, formed-node, count-variable, kind-symbol, kind-abstraction, inside-symbol, inside-abstraction, good-true}
 use Rattle.book.specs.Rule.{idBefore, idsOf, listFor, leftShape, sideLimits}
-use Rattle.book.specs.Occurs.{isHead, occursIn, belowHead, belowVars}
+use Rattle.book.specs.Occurs.{isPattern, occursIn, belowHead, belowVars}
 use Rattle.book.specs.Book.{Rule, checkBook, ruleAt}
 use Rattle.book.proofs.Laws.{RuleFacts, book-rule, ids-nothing, ids-node, left-symbol, left-abstraction, left-variable, left-pattern, occurs-nothing, occurs-node, below-node}
 use Rattle.fit.specs.Left.{Left, end, hole, part, idsOr, leftOf, wide, deep, occurs, GoodLeft}
@@ -26,29 +26,29 @@ use Rattle.fit.proofs.Words.{GoodRule}
 use Rattle.fit.proofs.Lowest.{LowestIs, lowest-is}
 
 -- ---- what a shape says of the trees of a row
-no-variable : (d i : ℕ) (kids rest : Row) → leftShape d (node (variable i) kids rest) ≡ true → ⊥
+pub no-variable : (d i : ℕ) (kids rest : Row) → leftShape d (node (variable i) kids rest) ≡ true → ⊥
 no-variable d i kids rest s = never (let z = left-variable d i kids rest in cc)
 
-under-symbol : (d i c : ℕ) (kids rest : Row) → leftShape d (node (symbol i c) kids rest) ≡ true → (leftShape d kids ≡ true) × (leftShape d rest ≡ true)
+pub under-symbol : (d i c : ℕ) (kids rest : Row) → leftShape d (node (symbol i c) kids rest) ≡ true → (leftShape d kids ≡ true) × (leftShape d rest ≡ true)
 under-symbol d i c kids rest s =
     let e = sym (left-symbol d i c kids rest) ∙ s in
     (and-left (leftShape d kids) (leftShape d rest) e, and-right (leftShape d kids) (leftShape d rest) e)
 
-under-abstraction : (d : ℕ) (kids rest : Row) → leftShape d (node abstraction kids rest) ≡ true → (leftShape (suc d) kids ≡ true) × (leftShape d rest ≡ true)
+pub under-abstraction : (d : ℕ) (kids rest : Row) → leftShape d (node abstraction kids rest) ≡ true → (leftShape (suc d) kids ≡ true) × (leftShape d rest ≡ true)
 under-abstraction d kids rest s =
     let e = sym (left-abstraction d kids rest) ∙ s in
     (and-left (leftShape (suc d) kids) (leftShape d rest) e, and-right (leftShape (suc d) kids) (leftShape d rest) e)
 
-under-pattern : (d i c : ℕ) (kids rest : Row) → leftShape d (node (pattern i c) kids rest) ≡ true → (listFor d (idsOf kids) ≡ true) × (leftShape d rest ≡ true)
+pub under-pattern : (d i c : ℕ) (kids rest : Row) → leftShape d (node (pattern i c) kids rest) ≡ true → (listFor d (idsOf kids) ≡ true) × (leftShape d rest ≡ true)
 under-pattern d i c kids rest s =
     let e = sym (left-pattern d i c kids rest) ∙ s in
     (and-left (listFor d (idsOf kids)) (leftShape d rest) e, and-right (listFor d (idsOf kids)) (leftShape d rest) e)
 
-listed : (d : ℕ) (o : Option (List ℕ)) → listFor d o ≡ true → (GoodList d (idsOr o)) × (o ≡ some (idsOr o))
+pub listed : (d : ℕ) (o : Option (List ℕ)) → listFor d o ≡ true → (GoodList d (idsOr o)) × (o ≡ some (idsOr o))
 listed d none e = never (cc)
 listed d (some ys) e = (good-true d ys e, refl)
 
-below-both : (vars : ℕ) (h : Head) (kids rest : Row) → belowVars vars (node h kids rest) ≡ true → (belowVars vars kids ≡ true) × (belowVars vars rest ≡ true)
+pub below-both : (vars : ℕ) (h : Head) (kids rest : Row) → belowVars vars (node h kids rest) ≡ true → (belowVars vars kids ≡ true) × (belowVars vars rest ≡ true)
 below-both vars h kids rest b =
     let e = and-right (belowHead vars h) (belowVars vars kids && belowVars vars rest) (sym (below-node vars h kids rest) ∙ b) in
     (and-left (belowVars vars kids) (belowVars vars rest) e, and-right (belowVars vars kids) (belowVars vars rest) e)
@@ -82,7 +82,7 @@ list-holds-none x (node h kids rest) p ys e =
     (λ zs q. list-holds-none x rest (formed-node h kids rest p .beside) zs q)
   where
     go : (g : Head) (o : Option (List ℕ)) → idsOf rest ≡ o → width kids ≡ count g → idBefore g o ≡ some ys
-        → ((zs : List ℕ) → idsOf rest ≡ some zs → occursIn x rest ≡ false) → isHead x g || (occursIn x kids || occursIn x rest) ≡ false
+        → ((zs : List ℕ) → idsOf rest ≡ some zs → occursIn x rest ≡ false) → isPattern x g || (occursIn x kids || occursIn x rest) ≡ false
     go (symbol i c) o q w z r = never (cc)
     go abstraction o q w z r = never (cc)
     go (pattern i c) o q w z r = never (cc)

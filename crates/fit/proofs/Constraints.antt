@@ -11,11 +11,11 @@ use borrow.Author.Tests.{eqb-true, eqb-false, eq-eqb, ne-eqb}
 use Rattle.term.specs.Word.{Head, word, count, pick}
 use Rattle.term.specs.Row.{Row, nothing, node, width, words, Formed}
 use Rattle.term.specs.Renumber.{GoodList, inside, toBody}
-use Rattle.term.specs.Part.{sameWords, sameO}
+use Rattle.term.specs.Part.{isSome, sameWords, sameO}
 use Rattle.term.proofs.Laws.{never, and-left, and-right, and-both, formed-node, node-formed, formed-nothing, width-node, width-nothing, closed-all, closed-body, words-same}
 use Rattle.fit.specs.Left.{Left, end, hole, part, wide, GoodLeft}
 use Rattle.fit.specs.Fit.{Found, bodyThen, onlyIf, found, bodyB, bodyIn, allSame, agreed, matching}
-use Rattle.fit.specs.Constraint.{Place, tree, under, treeAt, isHead, shapeFits, Occurrence, occurrences, Constraint, closedAt, sameAt, closeds, firstB, firstOf, sameThen, sames, constraints, bodyHere, bodyAt, isSome, holds, allHold}
+use Rattle.fit.specs.Constraint.{Place, tree, under, treeAt, isHead, shapeFits, Occurrence, occurrences, Constraint, closedAt, sameAt, closeds, firstB, firstOf, sameThen, sames, constraints, bodyHere, bodyAt, holds, allHold}
 use Rattle.fit.proofs.Basics.{same-word}
 use Rattle.fit.proofs.Places.{from, at-from, children-at, bodiesAt, found-at, body-here}
 

@@ -7,5 +7,15 @@ mod Constraints
 mod Words
 mod Lowest
 mod Accepted
+mod Standing
+mod Agreed
+mod FitRow
+mod Inner
+mod Variable
+mod Hole
+mod First
+mod BodyLoop
+mod OneRule
+mod Matched
 mod Computed
 pub mod Laws

@@ -9,7 +9,7 @@ use lib.ListN.{length}
 use Rattle.term.specs.Word.{Head, word, pick}
 use Rattle.term.specs.Row.{Row, nothing, node, words}
 use Rattle.term.specs.Renumber.{inside, toBody}
-use Rattle.term.specs.Part.{sameO}
+use Rattle.term.specs.Part.{isSome, sameO}
 use Rattle.fit.specs.Left.{Left, end, hole, part}
 
 -- ---- places: the way from a tree up to the root, innermost first. i ∷ p is the child i of p, and 0 ∷ [] is the root.
@@ -95,10 +95,6 @@ bodyHere d ys (node h kids rest) = toBody d ys (node h kids rest)
 
 unfoldable pub bodyAt : Row → Occurrence → Option Row
 bodyAt t o = bodyHere (o .depth) (o .list) (treeAt t (o .place))
-
-abbrev pub isSome : Option Row → Bool
-isSome none = false
-isSome (some b) = true
 
 unfoldable pub holds : Row → Constraint → Bool
 holds t (closedAt o) = isSome (bodyAt t o)

@@ -3,3 +3,4 @@ pub mod Fit
 pub mod Constraint
 pub mod Match
 pub mod Lowest
+pub mod Told

@@ -1,1 +1,4 @@
-// Fit of one rule: document 01's "Fit". Its definitions and theorems are in specs/ and proofs/; the operations are not here yet.
+// Fit of one rule: document 01's "Fit".
+mod bodies;
+pub mod rules;
+mod walk;

@@ -34,3 +34,8 @@ pub use Rattle.term.proofs.Answers.{is-some, is-none, some-is, none-is}
 pub use Rattle.term.proofs.Answers.{same-words, words-same}
 -- A row with a term's words is that term, also where its ids might pass the limit.
 pub use Rattle.term.proofs.Near.{Near, near-unique, near-nothing, near-node, near-join, term-near}
+-- What is left in a lent slice: the words and zeros after them where they fit, else zeros.
+pub use Rattle.term.proofs.Answers.{cleared, wrote, no-room}
+pub use Rattle.term.proofs.Leavings.{written-fits, written-short, padded-fits, padded-short, fits-written, body-answer, body-words, answer-fits}
+-- Two results that meet one promise are equal.
+pub use Rattle.term.proofs.Settled.{settled, settled-both, settled-three}

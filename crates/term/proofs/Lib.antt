@@ -11,6 +11,7 @@ mod Parts
 mod Images
 mod Walks
 mod Answers
+mod Leavings
 mod Clauses
 mod Computed
 mod Settled

@@ -5,7 +5,7 @@ use native.Mathlib.Omega.{arith}
 use mathlib.Core.Path.{_≡_, sym, ap, _∙_}
 use lib.Seq.{length-take-le}
 use Rattle.book.specs.Rule.{listFor}
-use Rattle.book.proofs.IdLoop.{told-list, told-none, ids-many}
+use Rattle.book.proofs.IdLoop.{told-list, told-none}
 use Rattle.book.proofs.ids.list_for.Statement.{statement}
 use Rattle.book.proofs.ids.list_for.Tie as tie
 
@@ -14,15 +14,15 @@ returns c = sym (ap (listFor _) (told-none _ _ _ _ (c .before .ids-of .ensures) 
 
 array-share-prefix-ids : tie.Need-array-share-prefix-ids
 array-share-prefix-ids c =
-    let t = told-list _ _ _ _ (c .before .before .before .ids-of .ensures) (not-false _ (c .before .before .if1 .left)) in omega (arith, t .1, c .before .if2 .left)
+    let t = told-list _ _ _ _ (c .before .before .ids-of .ensures) (not-false _ (c .before .if1 .left)) in omega (arith, t .1, t .2)
 
 slice-aggregate-good-list : tie.Need-slice-aggregate-good-list
 slice-aggregate-good-list c =
-    let t = told-list _ _ _ _ (c .before .before .before .before .ids-of .ensures) (not-false _ (c .before .before .before .if1 .left)) in sym (length-take-le _ _ (omega (arith, t .1, c .before .before .if2 .left)))
+    let t = told-list _ _ _ _ (c .before .before .before .ids-of .ensures) (not-false _ (c .before .before .if1 .left)) in sym (length-take-le _ _ (omega (arith, t .1, t .2)))
 
-returns-3 : tie.Need-returns-3
-returns-3 c =
-    let t = told-list _ _ _ _ (c .before .before .before .before .before .ids-of .ensures) (not-false _ (c .before .before .before .before .if1 .left)) in c .good-list .ensures ∙ sym (ap (listFor (c .before .before .before .before .before .before .before .args .d)) (t .0))
+returns-2 : tie.Need-returns-2
+returns-2 c =
+    let t = told-list _ _ _ _ (c .before .before .before .before .ids-of .ensures) (not-false _ (c .before .before .before .if1 .left)) in c .good-list .ensures ∙ sym (ap (listFor (c .before .before .before .before .before .before .args .d)) (t .0))
 
 pub list-for-spec : {M : Type 1} → statement M
 list-for-spec =
@@ -30,8 +30,7 @@ list-for-spec =
     (tie.spec
     (λ c κs. search needs)
     returns
-    (λ c. sym (ap (listFor _) (ids-many _ _ (c .if2 .taken))))
     array-share-prefix-ids
     slice-aggregate-good-list
     (λ c κs. search needs)
-    returns-3)
+    returns-2)

@@ -15,13 +15,13 @@ use Rattle.term.specs.Word.{Head, symbol, abstraction, variable, pattern, kind,
 use Rattle.term.specs.Row.{Row, nothing, node, width, words, kinds, nesting, Formed}
 use Rattle.term.specs.Renumber.{inside}
 use Rattle.term.specs.Walk.{insideWord}
-use Rattle.term.proofs.Laws.{words-node, words-nothing, width-node, width-nothing, nesting-node, nesting-nothing, kinds-node, formed-node, count-word, kind-word, inside-is, count-symbol, count-abstraction, kind-symbol, kind-abstraction, kind-pattern, inside-symbol, inside-abstraction, abstraction-in-table}
+use Rattle.term.proofs.Laws.{never, words-node, words-nothing, width-node, width-nothing, nesting-node, nesting-nothing, kinds-node, formed-node, count-word, kind-word, inside-is, count-symbol, count-abstraction, kind-symbol, kind-abstraction, kind-pattern, inside-symbol, inside-abstraction, abstraction-in-table}
 use Rattle.fit.specs.declared.walk.Both.{Both}
 use Rattle.fit.specs.declared.walk.Both.the-variants.{Done, Stuck}
 use Rattle.fit.specs.Left.{Left, end, hole, part, leftOf}
 use Rattle.fit.specs.Fit.{Found, bothFound, onlyIf, found}
 use Rattle.fit.specs.Told.{LeftRow, LeftStands, TermStands, Knows, agreedFrom, FitTold}
-use Rattle.fit.proofs.Basics.{never, single, Single, same-word}
+use Rattle.fit.proofs.Basics.{single, Single, same-word}
 use Rattle.fit.proofs.FitRow.{words-tree, both-end}
 
 -- a symbol or abstraction with its children

@@ -16,14 +16,13 @@ use Rattle.term.specs.Word.{Head, symbol, abstraction, variable, pattern, kind,
 use Rattle.term.specs.Row.{Row, nothing, node, width, words, kinds, nesting, Formed}
 use Rattle.term.specs.Renumber.{inside, toBody}
 use Rattle.term.specs.Walk.{insideWord}
-use Rattle.term.proofs.Laws.{words-node, words-nothing, width-node, width-nothing, nesting-node, nesting-nothing, kinds-node, kinds-nothing, formed-node, node-formed, formed-nothing, count-word, kind-word, inside-is, count-symbol, count-abstraction, kind-symbol, kind-abstraction, kind-pattern, inside-symbol, inside-abstraction}
+use Rattle.term.proofs.Laws.{never, words-node, words-nothing, width-node, width-nothing, nesting-node, nesting-nothing, kinds-node, kinds-nothing, formed-node, node-formed, formed-nothing, count-word, kind-word, inside-is, count-symbol, count-abstraction, kind-symbol, kind-abstraction, kind-pattern, inside-symbol, inside-abstraction}
 use Rattle.book.specs.Rule.{idsOf}
 use Rattle.fit.specs.declared.walk.Both.{Both}
 use Rattle.fit.specs.declared.walk.Both.the-variants.{Done, Stuck}
 use Rattle.fit.specs.Left.{Left, end, hole, part, idsOr, leftOf}
 use Rattle.fit.specs.Fit.{Found, bodyThen, bothFound, onlyIf, found, allSame}
 use Rattle.fit.specs.Told.{LeftRow, LeftStands, TermStands, Knows, agreedFrom, FitTold}
-use Rattle.fit.proofs.Basics.{never}
 use Rattle.fit.proofs.Agreed.{both-agreed, left-disagreed, right-disagreed}
 
 pub further : (at n : ℕ) (ws x y : List ℕ) → drop at ws ≡ x ++ y → length x ≡ n → drop (at + n) ws ≡ y

@@ -12,7 +12,7 @@ use Rattle.term.specs.Row.{Row, words}
 use Rattle.term.specs.Part.{sameWords}
 use Rattle.fit.specs.Fit.{Found, bodyThen, bothFound, bodyB, bodyIn, allSame}
 use Rattle.fit.specs.Told.{present, agreedFrom}
-use Rattle.fit.proofs.Basics.{never, and-left, and-right, and-both}
+use Rattle.term.proofs.Laws.{never, and-left, and-right, and-both}
 
 -- ---- the first body of a variable in a list and more behind it
 pub body-present : (x : ℕ) (l m : Found) → present x l ≡ true → bodyIn (l ++ m) x ≡ bodyIn l x

@@ -16,7 +16,7 @@ use Rattle.term.specs.Row.{Row, nothing, node, width, words, kinds, nesting, Fo
 use Rattle.term.specs.Renumber.{GoodList, toBody}
 use Rattle.term.specs.Part.{bodyOf, sameWords, partEnd}
 use Rattle.term.specs.Walk.{Stands}
-use Rattle.term.proofs.Laws.{words-node, words-nothing, width-node, width-nothing, formed-node, count-word, kind-word, ident-word, head-word, count-variable, count-pattern, ident-pattern, kind-symbol, kind-abstraction, kind-variable, body-stands, part-ends, words-same}
+use Rattle.term.proofs.Laws.{never, words-node, words-nothing, width-node, width-nothing, formed-node, count-word, kind-word, ident-word, head-word, count-variable, count-pattern, ident-pattern, kind-symbol, kind-abstraction, kind-variable, body-stands, part-ends, words-same}
 use Rattle.book.specs.Rule.{idsOf, idBefore}
 use Rattle.book.proofs.Laws.{ids-nothing, ids-node}
 use Rattle.fit.specs.declared.walk.Both.{Both}
@@ -24,16 +24,13 @@ use Rattle.fit.specs.declared.walk.Both.the-variants.{Done, Stuck}
 use Rattle.fit.specs.Left.{Left, end, hole, part, idsOr, leftOf}
 use Rattle.fit.specs.Fit.{Found, bodyThen, found, bodyIn, allSame}
 use Rattle.book.specs.Ids.{idBeforeO, variableIds, listIn}
-use Rattle.fit.specs.Told.{LeftRow, LeftStands, TermStands, slot, present, Seen, Knows, agreedFrom, FitTold}
-use Rattle.fit.proofs.Basics.{never, single, Single}
+use Rattle.fit.specs.Told.{LeftRow, LeftStands, TermStands, slot, present, Seen, Knows, recorded, agreedFrom, FitTold}
+use Rattle.fit.proofs.Basics.{single, Single}
 use Rattle.fit.proofs.FitRow.{words-tree}
 use Rattle.fit.proofs.Inner.{head-at}
 use Rattle.fit.proofs.Agreed.{body-present, body-absent, present-join, first-agreed, first-disagreed}
 
 -- ---- the table after a first occurrence
-abbrev pub recorded : List ℕ → ℕ → ℕ → ℕ → ℕ → List ℕ
-recorded table x a b c = set (set (set table (3 * x) a) (3 * x + 1) b) (3 * x + 2) c
-
 module _ (table : List ℕ) (size : length table ≡ 48) (x a b c : ℕ) (low : x < 16) where
   slot-other : (y i : ℕ) → i < 3 → (y ≡ x → ⊥) → slot (recorded table x a b c) y i ≡ slot table y i
   slot-other y i l n =

@@ -5,14 +5,14 @@ use mathlib.Core.List.{List, [], _∷_, _++_}
 use mathlib.Core.Option.{Option, none, some}
 use Prim.Native.Nat.{ℕ, zero, suc, _+_, _-_, _*_, _≤_, _<_}
 use native.Mathlib.Omega.{arith}
-use lib.ListN.{length, drop, getD}
+use lib.ListN.{length, length-append, drop, getD}
 use borrow.Author.Tests.{eq-eqb}
 use Rattle.term.specs.Word.{Head, symbol, abstraction, variable, pattern, kind, kindOf, countOf, identOf, word, InTable}
 use Rattle.term.specs.Row.{Row, nothing, node, width, words, Formed}
 use Rattle.term.specs.Renumber.{GoodList, toBody}
-use Rattle.term.specs.Part.{bodyOf, sameBody, sameWords, partEnd}
+use Rattle.term.specs.Part.{bodyOf, sameWords, partEnd}
 use Rattle.term.specs.Walk.{Stands}
-use Rattle.term.proofs.Laws.{kind-word, count-word, ident-word, kind-symbol, kind-abstraction, count-pattern, ident-pattern, abstraction-in-table, body-stands, part-ends, words-same, same-by-words}
+use Rattle.term.proofs.Laws.{never, kind-word, count-word, ident-word, kind-symbol, kind-abstraction, count-pattern, ident-pattern, abstraction-in-table, body-of, body-stands, part-ends, words-same}
 use Rattle.book.specs.Rule.{idsOf}
 use Rattle.book.specs.Ids.{listIn}
 use Rattle.book.proofs.Laws.{ids-counted, list-found}
@@ -20,12 +20,18 @@ use Rattle.fit.specs.declared.walk.Both.{Both}
 use Rattle.fit.specs.declared.walk.Both.the-variants.{Done, Stuck}
 use Rattle.fit.specs.Left.{Left, end, hole, part, idsOr, leftOf}
 use Rattle.fit.specs.Fit.{Found, bodyThen, found, bodyIn}
-use Rattle.fit.specs.Told.{LeftRow, LeftStands, TermStands, slot, Seen, Knows, agreedFrom, FitTold}
-use Rattle.fit.proofs.Basics.{never, single, Single}
+use Rattle.fit.specs.Told.{LeftRow, LeftStands, TermStands, slot, Knows, recorded, FirstSame, agreedFrom, FitTold}
+use Rattle.fit.proofs.Basics.{single, Single}
 use Rattle.fit.proofs.FitRow.{words-tree}
 use Rattle.fit.proofs.Inner.{head-at}
 use Rattle.fit.proofs.Agreed.{body-present, body-absent, first-agreed, first-disagreed}
-use Rattle.fit.proofs.Variable.{recorded, knows-again, knows-new}
+use Rattle.fit.proofs.Variable.{knows-again, knows-new}
+
+-- a part with a body ends inside the words
+pub part-inside : (d : ℕ) (ys ws : List ℕ) (b : Row) → bodyOf d ys ws ≡ some b → partEnd ws ≤ length ws
+part-inside d ys ws b e =
+    let i = body-of d ys ws b e in
+    omega (arith, part-ends 64 ws (i .tree) (i .after) (i .stands), ap length (i .stands .same), length-append (words (i .tree)) (i .after))
 
 -- a pattern variable with its list
 record HoleRow (vars d : ℕ) (h : Head) (kids : Row) : Type 0 where
@@ -40,7 +46,6 @@ record HoleRow (vars d : ℕ) (h : Head) (kids : Row) : Type 0 where
   ids : idsOf kids ≡ some list
   good : GoodList d list
   is : leftOf (node h kids nothing) ≡ hole var list end
-
 
 hole-row : (vars d : ℕ) (h : Head) (kids : Row) → kindOf (word h) ≡ 3 → LeftRow vars d (node h kids nothing) → HoleRow vars d h kids
 unfolding LeftRow leftOf
@@ -101,6 +106,15 @@ module _ (vars d levels : ℕ) (left : List ℕ) (at : ℕ) (term : List ℕ) (t
                 ∙ ap₂ (λ (v : ℕ) (o : Option Row). bodyThen v o (some [])) (sym i) (sym (b ∙ ap (toBody d (r .list)) (y .is)));
           }
 
+  -- every pattern variable has a list, and is one of the rule's
+  pub hole-unlisted : (done : List ℕ) → listIn (countOf (getD left at 0)) (drop (at + 1) left) ≡ none → FitTold vars d levels 1 left at term to table done Stuck
+  unfolding FitTold
+  hole-unlisted done e p after t beyond l s u k = let h = here p after t beyond s u in let z = h .listed in never (cc)
+
+  pub hole-beyond : (done : List ℕ) → vars ≤ identOf (getD left at 0) → FitTold vars d levels 1 left at term to table done Stuck
+  unfolding FitTold
+  hole-beyond done e p after t beyond l s u k = absurd (omega (arith, e, here p after t beyond s u .low))
+
   -- a tree that is not closed for the list has no body
   pub hole-open : (ys done : List ℕ) → listIn (countOf (getD left at 0)) (drop (at + 1) left) ≡ some ys → bodyOf d ys (drop to term) ≡ none
       → FitTold vars d levels 1 left at term to table done Stuck
@@ -143,8 +157,7 @@ module _ (vars d levels : ℕ) (left : List ℕ) (at : ℕ) (term : List ℕ) (t
         let h = holds p after t beyond l s u in
         let v = identOf (getD left at 0) in
         let first : bodyIn (l ++ ((v, b) ∷ [])) v ≡ b = body-absent v l ((v, b) ∷ []) (k .new v (h .low) z) ∙ rw (eq-eqb v v refl) in
-        let same : sameWords (words (bodyIn (l ++ ((v, b) ∷ [])) v)) (words b) ≡ true = rw first (words-same (words b)) in
-        (
+        let same : sameWords (words (bodyIn (l ++ ((v, b) ∷ [])) v)) (words b) ≡ true = rw first (words-same (words b)) in (
           (v, b) ∷ [],
           rw (h .finds) (first-agreed l v b same),
           knows-new left term table l v to at d ys b (h .low) z k la (omega arith) e body,
@@ -153,39 +166,33 @@ module _ (vars d levels : ℕ) (left : List ℕ) (at : ℕ) (term : List ℕ) (t
         )
 
     -- a later one is compared with the first
-    module _ (first : ℕ) (z : slot table (identOf (getD left at 0)) 0 ≡ suc first) (zs : List ℕ)
-        (f : listIn (countOf (getD left (slot table (identOf (getD left at 0)) 1) 0)) (drop (slot table (identOf (getD left at 0)) 1 + 1) left) ≡ some zs) where
-      compared : (l : Found) → identOf (getD left at 0) < 16 → Knows left term table l
-          → sameBody (slot table (identOf (getD left at 0)) 2) zs (drop first term) d ys (drop to term)
-          ≡ sameWords (words (bodyIn (l ++ ((identOf (getD left at 0), b) ∷ [])) (identOf (getD left at 0)))) (words b)
-      compared l low k = shown (k .seen (identOf (getD left at 0)) first low z)
-        where
-          shown : Seen left term table l (identOf (getD left at 0)) first
-              → sameBody (slot table (identOf (getD left at 0)) 2) zs (drop first term) d ys (drop to term)
-              ≡ sameWords (words (bodyIn (l ++ ((identOf (getD left at 0), b) ∷ [])) (identOf (getD left at 0)))) (words b)
-          shown n =
-              let v = identOf (getD left at 0) in
-              let q : zs ≡ n .list = let y = n .listed in cc in
-              same-by-words (slot table v 2) zs (drop first term) d ys (drop to term) (bodyIn l v) b (rw q (n .body)) body
-              ∙ ap (λ (r : Row). sameWords (words r) (words b)) (sym (body-present v l ((v, b) ∷ []) (n .here)))
+    module _ (met : slot table (identOf (getD left at 0)) 0 ≡ 0 → ⊥) (same : Bool) (told : FirstSame left term table (identOf (getD left at 0)) d ys to same) where
+      compared : (l : Found) → identOf (getD left at 0) < 16 → (first : ℕ) → slot table (identOf (getD left at 0)) 0 ≡ suc first → Knows left term table l
+          → same ≡ sameWords (words (bodyIn (l ++ ((identOf (getD left at 0), b) ∷ [])) (identOf (getD left at 0)))) (words b)
+      unfolding FirstSame
+      compared l low first z k =
+          let v = identOf (getD left at 0) in
+          let n = k .seen v first low z in
+          told l b k (n .here) body ∙ ap (λ (r : Row). sameWords (words r) (words b)) (sym (body-present v l ((v, b) ∷ []) (n .here)))
 
-      pub hole-again : sameBody (slot table (identOf (getD left at 0)) 2) zs (drop first term) d ys (drop to term) ≡ true
-          → FitTold vars d levels 1 left at term to table table (Done (at + 1 + countOf (getD left at 0)) (to + partEnd (drop to term)))
+      first-slot : slot table (identOf (getD left at 0)) 0 ≡ suc (slot table (identOf (getD left at 0)) 0 - 1)
+      first-slot = omega (arith, met)
+
+      pub hole-again : same ≡ true → FitTold vars d levels 1 left at term to table table (Done (at + 1 + countOf (getD left at 0)) (to + partEnd (drop to term)))
       unfolding FitTold
       hole-again y p after t beyond l s u k =
           let h = holds p after t beyond l s u in
-          let v = identOf (getD left at 0) in
-          (
+          let v = identOf (getD left at 0) in (
             (v, b) ∷ [],
-            rw (h .finds) (first-agreed l v b (sym (compared l (h .low) k) ∙ y)),
-            knows-again left term table l v first b (h .low) z k,
+            rw (h .finds) (first-agreed l v b (sym (compared l (h .low) (slot table v 0 - 1) first-slot k) ∙ y)),
+            knows-again left term table l v (slot table v 0 - 1) b (h .low) first-slot k,
             h .left-ends,
             h .term-ends,
           )
 
-      pub hole-differs : (done : List ℕ) → sameBody (slot table (identOf (getD left at 0)) 2) zs (drop first term) d ys (drop to term) ≡ false
-          → FitTold vars d levels 1 left at term to table done Stuck
+      pub hole-differs : (done : List ℕ) → same ≡ false → FitTold vars d levels 1 left at term to table done Stuck
       unfolding FitTold
       hole-differs done y p after t beyond l s u k =
           let h = holds p after t beyond l s u in
-          rw (h .finds) (first-disagreed l (identOf (getD left at 0)) b (sym (compared l (h .low) k) ∙ y))
+          let v = identOf (getD left at 0) in
+          rw (h .finds) (first-disagreed l v b (sym (compared l (h .low) (slot table v 0 - 1) first-slot k) ∙ y))
