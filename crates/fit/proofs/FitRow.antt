@@ -134,7 +134,7 @@ module _ (count : ℕ) (term : List ℕ) (to : ℕ) (z : count ≡ 0 → ⊥) wh
       }
 
 -- ---- a row by its first tree and the rest
-length-split : (h : Head) (kids rest : Row) → length (words (node h kids rest)) ≡ length (words (node h kids nothing)) + length (words rest)
+pub length-split : (h : Head) (kids rest : Row) → length (words (node h kids rest)) ≡ length (words (node h kids nothing)) + length (words rest)
 length-split h kids rest =
     let a : length (words (node h kids rest)) ≡ suc (length (words kids) + length (words rest)) = ap length (words-node h kids rest) ∙ ap suc (length-append (words kids) (words rest)) in
     let b : length (words (node h kids nothing)) ≡ suc (length (words kids)) = ap length (words-tree h kids) in

@@ -34,20 +34,20 @@ part-inside d ys ws b e =
     omega (arith, part-ends 64 ws (i .tree) (i .after) (i .stands), ap length (i .stands .same), length-append (words (i .tree)) (i .after))
 
 -- a pattern variable with its list
-record HoleRow (vars d : ℕ) (h : Head) (kids : Row) : Type 0 where
-  var : ℕ
-  count : ℕ
-  head-is : h ≡ pattern var count
-  table : InTable (pattern var count)
-  low : var < vars
-  full : width kids ≡ count
-  formed : Formed kids
-  list : List ℕ
-  ids : idsOf kids ≡ some list
-  good : GoodList d list
-  is : leftOf (node h kids nothing) ≡ hole var list end
+pub record HoleRow (vars d : ℕ) (h : Head) (kids : Row) : Type 0 where
+  pub var : ℕ
+  pub count : ℕ
+  pub head-is : h ≡ pattern var count
+  pub table : InTable (pattern var count)
+  pub low : var < vars
+  pub full : width kids ≡ count
+  pub formed : Formed kids
+  pub list : List ℕ
+  pub ids : idsOf kids ≡ some list
+  pub good : GoodList d list
+  pub is : leftOf (node h kids nothing) ≡ hole var list end
 
-hole-row : (vars d : ℕ) (h : Head) (kids : Row) → kindOf (word h) ≡ 3 → LeftRow vars d (node h kids nothing) → HoleRow vars d h kids
+pub hole-row : (vars d : ℕ) (h : Head) (kids : Row) → kindOf (word h) ≡ 3 → LeftRow vars d (node h kids nothing) → HoleRow vars d h kids
 unfolding LeftRow leftOf
 hole-row vars d (symbol i c) kids e p = absurd (omega (arith, e, kind-word (symbol i c) (p .0), kind-symbol i c))
 hole-row vars d abstraction kids e p = absurd (omega (arith, e, kind-word abstraction abstraction-in-table, kind-abstraction))

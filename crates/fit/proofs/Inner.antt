@@ -31,7 +31,7 @@ pub record InnerRow (vars d : ℕ) (h : Head) (kids : Row) : Type 0 where
   pub below : LeftRow vars (inside h d) kids
   pub is : leftOf (node h kids nothing) ≡ part h (leftOf kids) end
 
-inner-row : (vars d : ℕ) (h : Head) (kids : Row) → (kind h ≡ 3 → ⊥) → LeftRow vars d (node h kids nothing) → InnerRow vars d h kids
+pub inner-row : (vars d : ℕ) (h : Head) (kids : Row) → (kind h ≡ 3 → ⊥) → LeftRow vars d (node h kids nothing) → InnerRow vars d h kids
 unfolding LeftRow leftOf
 inner-row vars d (symbol i c) kids n p = record { table = p .0; full = p .1 ∙ sym (count-symbol i c); below = rw (inside-symbol i c d) (p .2); is = refl }
 inner-row vars d abstraction kids n p = record { table = abstraction-in-table; full = p .0 ∙ sym count-abstraction; below = rw (inside-abstraction d) (p .1); is = refl }

@@ -12,3 +12,16 @@ pub use Rattle.fit.proofs.Constraints.{There, AllThere, all-there, isMa
 -- The lowest rule that fits, of the rules of an accepted book.
 pub use Rattle.fit.proofs.Lowest.{NoFit, LowestIs, lowest-is}
 pub use Rattle.fit.proofs.Accepted.{tree-of, accepted-good, book-lowest}
+-- Places, shapes, occurrences and constraints: the clauses of their definitions, and what matching finds at a first occurrence.
+pub use Rattle.fit.proofs.Above.{under-root, under-child, at-root, at-child, tree-nothing, tree-first, tree-later, children-nothing, children-node, from-first}
+pub use Rattle.fit.proofs.Places.{from, at-from}
+pub use Rattle.fit.proofs.Above.{head-nothing, head-node, shape-end, shape-hole, shape-part, wide-end, wide-hole, wide-part, good-hole, good-part}
+pub use Rattle.fit.proofs.Above.{occurrences-end, occurrences-hole, occurrences-part, Each, Names, EachNames, each-join, first-each, constraints-name}
+pub use Rattle.fit.proofs.Above.{body-nothing, body-node, body-at, holds-closed, holds-same, all-hold-none, all-hold-more}
+pub use Rattle.fit.proofs.Above.{IsThere, occurs-first, beyond-first, FirstBody, matched-first, lowest-zero, lowest-more}
+pub use Rattle.fit.proofs.Above.{OneVariable, constraints-one, first-variable, Counted, rule-counted}
+-- Building is limited by what it says: formed, 64 levels and 4,096 words.
+pub use Rattle.fit.proofs.BuildAnswers.{within-is, over-is}
+-- Built then matched, and matched then built: over words, and over what the operations answer and leave.
+pub use Rattle.fit.proofs.RoundTrip.{built-then-matched, matched-then-built}
+pub use Rattle.fit.proofs.RoundAnswers.{build-match, match-build}

@@ -1,16 +1,16 @@
 -- A rule's left side stands in its words from their first on, and a term in its own: the book's check asks for what a walk needs.
-use mathlib.Core.Path.{_≡_, refl, sym, ap, _∙_}
-use mathlib.Core.Bool.{Bool, true, false, _&&_}
-use mathlib.Core.List.{List, [], _∷_, _++_, append-nil}
-use mathlib.Core.Option.{Option, none, some}
-use Prim.Native.Nat.{ℕ, zero, suc, _+_, _≤_, _<_}
+use mathlib.Core.Path.{_≡_, sym, _∙_}
+use mathlib.Core.Bool.{true, _&&_}
+use mathlib.Core.List.{List, [], _++_, append-nil}
+use mathlib.Core.Option.{some}
+use Prim.Native.Nat.{ℕ, suc, _+_}
 use native.Mathlib.Omega.{arith}
 use lib.Dec.{ltb}
 use lib.ListN.{drop}
 use borrow.Author.Tests.{ltb-true}
 use Rattle.term.specs.declared.check.Checked.the-variants.{Good}
-use Rattle.term.specs.Word.{Head, symbol, abstraction, variable, pattern}
-use Rattle.term.specs.Row.{Row, nothing, node, width, words, Formed}
+use Rattle.term.specs.Word.{symbol, abstraction, variable, pattern}
+use Rattle.term.specs.Row.{Row, nothing, node, words, Formed}
 use Rattle.term.specs.Check.{Limits, IsTree, check, termLimits}
 use Rattle.term.specs.Renumber.{GoodList}
 use Rattle.term.proofs.Laws.{and-left, formed-node, count-symbol, count-abstraction, count-pattern, good-tree}

@@ -4,3 +4,5 @@ pub mod Constraint
 pub mod Match
 pub mod Lowest
 pub mod Told
+pub mod Build
+pub mod BuildWalk

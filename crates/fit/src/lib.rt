@@ -1,4 +1,5 @@
 // Fit of one rule: document 01's "Fit".
 mod bodies;
+pub mod build;
 pub mod rules;
 mod walk;

@@ -37,5 +37,7 @@ pub use Rattle.term.proofs.Near.{Near, near-unique, near-nothing, near-
 -- What is left in a lent slice: the words and zeros after them where they fit, else zeros.
 pub use Rattle.term.proofs.Answers.{cleared, wrote, no-room}
 pub use Rattle.term.proofs.Leavings.{written-fits, written-short, padded-fits, padded-short, fits-written, body-answer, body-words, answer-fits}
+-- What the walk from a body to a term writes, and when its ids are within the limit.
+pub use Rattle.term.proofs.Imaged.{image-wrote, image-stuck, every-nothing, every-node, small-formed}
 -- Two results that meet one promise are equal.
 pub use Rattle.term.proofs.Settled.{settled, settled-both, settled-three}

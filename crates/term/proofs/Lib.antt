@@ -12,6 +12,7 @@ mod Images
 mod Walks
 mod Answers
 mod Leavings
+mod Imaged
 mod Clauses
 mod Computed
 mod Settled

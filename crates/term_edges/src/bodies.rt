@@ -1,9 +1,9 @@
 // Closedness, bodies of parts, and terms of bodies.
-use crate::print::written;
-use crate::print::yes_or_no;
 use crate::words::L;
 use crate::words::ONE;
 use crate::words::V;
+use report::print::written;
+use report::print::yes_or_no;
 use term::part::is_closed;
 use term::part::write_body;
 use term::part::write_term;

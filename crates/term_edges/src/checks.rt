@@ -1,12 +1,12 @@
 // The check of a term, and where a part ends.
-use crate::print::checked;
-use crate::print::offset;
 use crate::words::L;
 use crate::words::LEAF;
 use crate::words::ONE;
 use crate::words::V;
 use crate::words::fill_deep;
 use crate::words::fill_wide;
+use report::print::checked;
+use report::print::offset;
 use term::check::check_term;
 use term::part::part_end;
 use term::word::COUNT;

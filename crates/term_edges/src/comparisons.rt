@@ -1,6 +1,6 @@
 // The parts of document 01's P7 to P10, compared.
-use crate::print::yes_or_no;
 use crate::words::V;
+use report::print::yes_or_no;
 use term::part::same_body;
 
 // `m0.1 v1` under one abstraction, and `m0.1 v2` under two.

@@ -2,7 +2,6 @@
 mod bodies;
 mod checks;
 mod comparisons;
-mod print;
 mod words;
 
 fn main() {

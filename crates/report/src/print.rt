@@ -1,5 +1,6 @@
-// Lines of the report.
+// One line a case: its name, what was answered, and every lent word afterwards.
 use libc::STDOUT_FILENO;
+use term::answer::Answer;
 use term::check::Checked;
 use term::part::Written;
 
@@ -9,6 +10,16 @@ pub fn bytes(text: &[u8]) {
 
 pub fn number(n: usize) {
     io::print_decimal(STDOUT_FILENO, n as u64);
+}
+
+// Each word after a blank.
+pub fn words(out: &[u32]) {
+    let mut i: usize = 0;
+    while i < out.len() {
+        bytes(b" ");
+        io::print_decimal(STDOUT_FILENO, out[i] as u64);
+        i += 1;
+    }
 }
 
 pub fn checked(name: &[u8], answer: Checked) {
@@ -63,11 +74,14 @@ pub fn written(name: &[u8], answer: Written, out: &[u32]) {
     bytes(b"\n");
 }
 
-fn words(out: &[u32]) {
-    let mut i: usize = 0;
-    while i < out.len() {
-        bytes(b" ");
-        io::print_decimal(STDOUT_FILENO, out[i] as u64);
-        i += 1;
-    }
+// An answer by document 01's number, its place, and every lent word afterwards.
+pub fn answered(name: &[u8], answer: Answer, out: &[u32]) {
+    bytes(name);
+    bytes(b": answer ");
+    number(term::answer::number(answer) as usize);
+    bytes(b" at ");
+    number(term::answer::place(answer));
+    bytes(b",");
+    words(out);
+    bytes(b"\n");
 }

@@ -4,8 +4,8 @@ use native.Mathlib.Omega.{arith}
 use mathlib.Core.Path.{_≡_, refl}
 use Prim.Native.Nat.{_≤_, _-_}
 use lib.ListN.{length}
-use Rattle.term_edges.proofs.print.words.Statement.{statement}
-use Rattle.term_edges.proofs.print.words.Tie as tie
+use Rattle.report.proofs.print.words.Statement.{statement}
+use Rattle.report.proofs.print.words.Tie as tie
 
 abbrev Inv-loop : tie.InvT-loop
 Inv-loop out i₀ t3 i =

@@ -1,0 +1,2 @@
+// Lines that the programs of the edges print.
+pub mod print;
