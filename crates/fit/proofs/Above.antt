@@ -1,15 +1,16 @@
 -- What a crate above needs of places, shapes and constraints: the clauses of their definitions as equations, and what matching finds at the first occurrence of a variable.
-use mathlib.Core.Path.{_≡_, refl, sym, ap, ap₂, _∙_}
+use mathlib.Core.Path.{_≡_, refl, sym, ap, _∙_}
 use mathlib.Core.Bool.{Bool, true, false, _&&_, _||_}
 use mathlib.Core.List.{List, [], _∷_, _++_}
 use mathlib.Core.Option.{Option, none, some}
-use Prim.Native.Nat.{ℕ, zero, suc, _+_, _≤_, _<_}
+use Prim.Native.Nat.{ℕ, suc, _+_, _*_, _≤_, _<_}
 use native.Mathlib.Omega.{arith}
 use lib.Dec.{eqb}
-use lib.ListN.{length}
-use borrow.Author.Tests.{eqb-true, eqb-false, eq-eqb, ne-eqb}
+use lib.ListN.{length, length-append}
+use borrow.Author.Tests.{eqb-true, ne-eqb}
 use Rattle.term.specs.Word.{Head, symbol, abstraction, variable, pattern, word, kind, count, pick, InTable}
 use Rattle.term.specs.Row.{Row, nothing, node, width, Formed}
+use Rattle.term.specs.Check.{IsTree}
 use Rattle.term.specs.Renumber.{GoodList, inside, toBody}
 use Rattle.term.specs.Part.{isSome, sameO}
 use Rattle.term.proofs.Laws.{never, and-left, and-right, formed-node, count-pattern}
@@ -18,10 +19,10 @@ use Rattle.book.specs.Occurs.{countsAs}
 use Rattle.book.specs.Book.{Rule, ruleAt}
 use Rattle.book.proofs.Laws.{RuleFacts, left-symbol, left-abstraction, left-variable, left-pattern, counts-node, ids-counted}
 use Rattle.fit.specs.Left.{Left, end, hole, part, idsOr, leftOf, wide, occurs, GoodLeft}
-use Rattle.fit.specs.Fit.{Found, bodyThen, onlyIf, bodyB, bodyIn, allSame, agreed, found, matching}
+use Rattle.fit.specs.Fit.{Found, bodyThen, onlyIf, bodyB, bodyIn, allSame, agreed, matching}
 use Rattle.fit.specs.Constraint.{Place, tree, childrenOf, under, treeAt, isHead, shapeFits, Occurrence, occurrences, Constraint, closedAt, sameAt, closeds, firstB, firstOf, sameThen, sames, constraints, bodyHere, bodyAt, holds, allHold}
 use Rattle.fit.specs.Match.{leftIn}
-use Rattle.fit.specs.Lowest.{Fitting, orNext, matchingO, lowest}
+use Rattle.fit.specs.Lowest.{orNext, matchingO, lowest}
 use Rattle.fit.proofs.Places.{from, bodiesAt, found-at}
 use Rattle.fit.proofs.Accepted.{tree-of}
 
@@ -419,6 +420,55 @@ matched-first vars left t b x g n f e =
     rw e at (rw (← found-at vars t [] 0 0 left t (whole t) n f g) at
     (agreed-first t x (occurrences [] 0 0 left) (onlyIf (shapeFits t [] 0 left) (bodiesAt t (occurrences [] 0 0 left)))
     (only-first t x (occurrences [] 0 0 left) (shapeFits t [] 0 left) (bodiesAt t (occurrences [] 0 0 left)) (firsts t x (occurrences [] 0 0 left)))))
+
+-- ---- left sides as rows
+pub left-of-nothing : leftOf nothing ≡ end
+unfolding leftOf
+left-of-nothing = refl
+
+pub left-of-symbol : (i c : ℕ) (kids rest : Row) → leftOf (node (symbol i c) kids rest) ≡ part (symbol i c) (leftOf kids) (leftOf rest)
+unfolding leftOf
+left-of-symbol i c kids rest = refl
+
+pub left-of-abstraction : (kids rest : Row) → leftOf (node abstraction kids rest) ≡ part abstraction (leftOf kids) (leftOf rest)
+unfolding leftOf
+left-of-abstraction kids rest = refl
+
+pub left-of-variable : (i : ℕ) (kids rest : Row) → leftOf (node (variable i) kids rest) ≡ leftOf rest
+unfolding leftOf
+left-of-variable i kids rest = refl
+
+pub left-of-pattern : (x c : ℕ) (kids rest : Row) → leftOf (node (pattern x c) kids rest) ≡ hole x (idsOr (idsOf kids)) (leftOf rest)
+unfolding leftOf
+left-of-pattern x c kids rest = refl
+
+pub left-in : (rule : Rule) (i : IsTree sideLimits (rule .left)) → leftIn rule ≡ leftOf (i .tree)
+unfolding leftIn
+left-in rule i = ap leftOf (tree-of sideLimits (rule .left) i)
+
+-- ---- at most two constraints for each occurrence
+closeds-few : (os : List Occurrence) → length (closeds os) ≤ length os
+unfolding closeds
+closeds-few [] = omega arith
+closeds-few (o ∷ os) = go (eqb (length (o .list)) (o .depth)) (closeds-few os)
+  where
+    go : (b : Bool) → length (closeds os) ≤ length os → length (pick b (closeds os) (closedAt o ∷ closeds os)) ≤ suc (length os)
+    go true r = omega arith
+    go false r = omega arith
+
+sames-few : (es os : List Occurrence) → length (sames es os) ≤ length os
+unfolding sames
+sames-few es [] = omega arith
+sames-few es (o ∷ os) = go (firstOf (o .var) es) (sames-few (es ++ (o ∷ [])) os)
+  where
+    go : (r : Option Occurrence) → length (sames (es ++ (o ∷ [])) os) ≤ length os → length (sameThen r o (sames (es ++ (o ∷ [])) os)) ≤ suc (length os)
+    go none q = omega arith
+    go (some f) q = omega arith
+
+pub constraints-few : (left : Left) → length (constraints left) ≤ 2 * length (occurrences [] 0 0 left)
+unfolding constraints
+constraints-few left =
+    omega (arith, length-append (closeds (occurrences [] 0 0 left)) (sames [] (occurrences [] 0 0 left)), closeds-few (occurrences [] 0 0 left), sames-few [] (occurrences [] 0 0 left))
 
 -- ---- the lowest rule
 pub lowest-zero : (book : List ℕ) (number : ℕ) (t : Row) → lowest book number 0 t ≡ none

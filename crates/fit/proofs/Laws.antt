@@ -20,6 +20,8 @@ pub use Rattle.fit.proofs.Above.{occurrences-end, occurrences-hole, occ
 pub use Rattle.fit.proofs.Above.{body-nothing, body-node, body-at, holds-closed, holds-same, all-hold-none, all-hold-more}
 pub use Rattle.fit.proofs.Above.{IsThere, occurs-first, beyond-first, FirstBody, matched-first, lowest-zero, lowest-more}
 pub use Rattle.fit.proofs.Above.{OneVariable, constraints-one, first-variable, Counted, rule-counted}
+pub use Rattle.fit.proofs.Above.{OneVariable, constraints-one, first-variable, Counted, rule-counted, constraints-few}
+pub use Rattle.fit.proofs.Above.{left-of-nothing, left-of-symbol, left-of-abstraction, left-of-variable, left-of-pattern, left-in}
 -- Building is limited by what it says: formed, 64 levels and 4,096 words.
 pub use Rattle.fit.proofs.BuildAnswers.{within-is, over-is}
 -- Built then matched, and matched then built: over words, and over what the operations answer and leave.

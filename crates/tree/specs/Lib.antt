@@ -1,0 +1,7 @@
+pub mod Tree
+pub mod Path
+pub mod Rows
+pub mod Compile
+pub mod Find
+pub mod Layout
+pub mod Compiled

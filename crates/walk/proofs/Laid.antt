@@ -1,0 +1,105 @@
+-- Over a layout the walk is the walk of the tree and never damaged; over the layout of an accepted book's tree it finds the lowest rule that fits.
+use mathlib.Core.Path.{_≡_, refl, ap, _∙_}
+use mathlib.Core.Bool.{Bool, true, false}
+use mathlib.Core.List.{List, [], _∷_}
+use mathlib.Core.Option.{Option, none, some}
+use Prim.Native.Nat.{ℕ, suc, _≤_, _<_}
+use lib.Dec.{eqb}
+use lib.ListN.{length, getD}
+use borrow.Author.Tests.{le-leb, eq-eqb}
+use Rattle.term.specs.declared.check.Checked.the-variants.{Good}
+use Rattle.term.specs.Word.{pick}
+use Rattle.term.specs.Row.{Row, width, Formed}
+use Rattle.term.specs.Part.{isSome, sameO}
+use Rattle.term.proofs.Laws.{and-both}
+use Rattle.book.specs.Rule.{counted}
+use Rattle.book.specs.Book.{checkBook}
+use Rattle.fit.specs.Lowest.{Fitting, lowest}
+use Rattle.tree.specs.Tree.{Tree}
+use Rattle.tree.specs.Compile.{bookTree}
+use Rattle.tree.specs.Find.{PartAt, rootPart, partOf, enterPart, bodyFor, leafBody}
+use Rattle.tree.specs.Layout.{layout}
+use Rattle.tree.proofs.Laws.{Lies, lies-inside, whole-lies, switch-lies, closed-lies, same-lies, Walks, fails, ends, takes, defaults, closedYes, closedNo, sameYes, sameNo, CountsAre, varsIn, FitsBook, book-walks}
+use Rattle.walk.specs.Walk.{Walked, NoneFits, RuleFits, Next, Ends, Goes, goTo, nextAt, follow, walkFrom, walk, countsFit, bookFits, noBook}
+use Rattle.walk.proofs.Nodes.{goes, next-fail, next-leaf, case-taken, next-case, next-default, next-closed, next-same}
+use Rattle.walk.proofs.Steps.{walk-is}
+
+-- how a walk ends that finds this: `vars` says how many variables a rule has
+abbrev pub walkedOf : (ℕ → ℕ) → Option Fitting → Walked
+walkedOf vars none = NoneFits
+walkedOf vars (some f) = RuleFits f (vars (f .number))
+
+module _ (vars : ℕ → ℕ) (fits : ℕ → List ℕ → Bool) (table : List ℕ) where
+  -- where a node leads
+  leads : (at : ℕ) (ps : List PartAt) (next : Next) (w : Walked) → nextAt fits table at ps ≡ next → follow (walkFrom fits table) next ≡ w → walkFrom fits table at ps ≡ w
+  leads at ps next w e q = walk-is fits table at ps ∙ ap (follow (walkFrom fits table)) e ∙ q
+
+  leads-to : (at to : ℕ) (ps qs : List PartAt) (w : Walked) → nextAt fits table at ps ≡ Goes to qs → walkFrom fits table to qs ≡ w → walkFrom fits table at ps ≡ w
+  leads-to at to ps qs w e q = leads at ps (Goes to qs) w e q
+
+  test-leads : (at yes-at no-at : ℕ) (ps : List PartAt) (b : Bool) (test : Bool) → test ≡ b → at < pick b yes-at no-at → pick b yes-at no-at < length table
+      → nextAt fits table at ps ≡ goTo table at (pick test yes-at no-at) ps → nextAt fits table at ps ≡ Goes (pick b yes-at no-at) ps
+  test-leads at yes-at no-at ps b test e l i q = q ∙ ap (λ (x : Bool). goTo table at (pick x yes-at no-at) ps) e ∙ goes table at (pick b yes-at no-at) ps l i
+
+  pub walk-laid : (tree : Tree) (ps : List PartAt) (r : Option Fitting) → Walks vars fits tree ps r → (at : ℕ) → Lies table at tree → walkFrom fits table at ps ≡ walkedOf vars r
+  walk-laid tree ps r (fails {ps = qs}) at l = leads at qs (Ends NoneFits) NoneFits (next-fail fits table at qs l) refl
+  walk-laid tree ps r (ends {ps = qs} {rule = rule} {vs = vs} low few many fit s) at l =
+      leads at qs (Ends (RuleFits (record { number = rule; bodies = leafBody qs vs }) (length vs))) (RuleFits (record { number = rule; bodies = leafBody qs vs }) (vars rule))
+      (next-leaf fits table at qs rule vs l low few fit s) (ap (RuleFits (record { number = rule; bodies = leafBody qs vs })) many)
+  walk-laid tree ps r (takes {ps = qs} {r = s} {n = n} {cs = cs} {x = x} {default = d} less new t w) at l =
+      let k = switch-lies table at n cs d l in
+      let c = case-taken table (partOf n qs .part) cs x (k .other ∷ k .after) t (k .next) (k .cases) in
+      leads-to at (c .to) qs (enterPart n qs) (walkedOf vars s) (next-case fits table at qs n cs d x k less new c) (walk-laid x (enterPart n qs) s w (c .to) (c .lies))
+  walk-laid tree ps r (defaults {ps = qs} {r = s} {n = n} {cs = cs} {default = d} less t w) at l =
+      let k = switch-lies table at n cs d l in
+      leads-to at (k .other) qs qs (walkedOf vars s) (next-default fits table at qs n cs d k less t) (walk-laid d qs s w (k .other) (k .otherwise))
+  walk-laid tree ps r (closedYes {ps = qs} {r = s} {n = n} {ys = ys} {ifYes = a} {ifNo = b} p e w) at l =
+      let k = closed-lies table at n ys a b l in
+      leads-to at (k .yes-at) qs qs (walkedOf vars s)
+      (test-leads at (k .yes-at) (k .no-at) qs true (isSome (bodyFor qs n ys)) e (k .later-yes) (lies-inside table (k .yes-at) a (k .yes-lies)) (next-closed fits table at qs n ys a b k p))
+      (walk-laid a qs s w (k .yes-at) (k .yes-lies))
+  walk-laid tree ps r (closedNo {ps = qs} {r = s} {n = n} {ys = ys} {ifYes = a} {ifNo = b} p e w) at l =
+      let k = closed-lies table at n ys a b l in
+      leads-to at (k .no-at) qs qs (walkedOf vars s)
+      (test-leads at (k .yes-at) (k .no-at) qs false (isSome (bodyFor qs n ys)) e (k .later-no) (lies-inside table (k .no-at) b (k .no-lies)) (next-closed fits table at qs n ys a b k p))
+      (walk-laid b qs s w (k .no-at) (k .no-lies))
+  walk-laid tree ps r (sameYes {ps = qs} {r = s} {n = n} {m = m} {ys = ys} {zs = zs} {ifYes = a} {ifNo = b} p q z e w) at l =
+      let k = same-lies table at n m ys zs a b l in
+      leads-to at (k .yes-at) qs qs (walkedOf vars s)
+      (test-leads at (k .yes-at) (k .no-at) qs true (sameO (bodyFor qs n ys) (bodyFor qs m zs)) e (k .later-yes) (lies-inside table (k .yes-at) a (k .yes-lies)) (next-same fits table at qs n m ys zs a b k p q z))
+      (walk-laid a qs s w (k .yes-at) (k .yes-lies))
+  walk-laid tree ps r (sameNo {ps = qs} {r = s} {n = n} {m = m} {ys = ys} {zs = zs} {ifYes = a} {ifNo = b} p q z e w) at l =
+      let k = same-lies table at n m ys zs a b l in
+      leads-to at (k .no-at) qs qs (walkedOf vars s)
+      (test-leads at (k .yes-at) (k .no-at) qs false (sameO (bodyFor qs n ys) (bodyFor qs m zs)) e (k .later-no) (lies-inside table (k .no-at) b (k .no-lies)) (next-same fits table at qs n m ys zs a b k p q z))
+      (walk-laid b qs s w (k .no-at) (k .no-lies))
+
+-- ---- the counts at a Leaf
+none-given : (book : List ℕ) → FitsBook book noBook
+unfolding noBook
+none-given book number rule e ks n c = refl
+
+counts-fit : (left : List ℕ) (x : ℕ) (ks : List ℕ) → CountsAre left x ks → countsFit left x ks ≡ true
+unfolding countsFit
+counts-fit left x [] c = refl
+counts-fit left x (k ∷ ks) c = and-both (eqb (counted x left) (suc k)) (countsFit left (suc x) ks) (eq-eqb (counted x left) (suc k) (c .0)) (counts-fit left (suc x) ks (c .1))
+
+book-given : (book : List ℕ) → FitsBook book (bookFits book)
+unfolding bookFits
+book-given book number rule e ks n c = rw (e, eq-eqb (length ks) (rule .vars) n) (counts-fit (rule .left) 0 ks c)
+
+-- ---- the layout of an accepted book's tree
+module _ (book : List ℕ) (accepted : checkBook book ≡ Good) (short : length (layout 0 (bookTree book)) ≤ 16384) (t : Row) (formed : Formed t) (one : width t ≡ 1) where
+  laid-out : (fits : ℕ → List ℕ → Bool) → FitsBook book fits → walk fits (layout 0 (bookTree book)) t ≡ walkedOf (varsIn book) (lowest book 0 (getD book 0 0) t)
+  unfolding walk
+  laid-out fits ok =
+      rw (le-leb (length (layout 0 (bookTree book))) 16384 short)
+      (walk-laid (varsIn book) fits (layout 0 (bookTree book)) (bookTree book) (rootPart t) (lowest book 0 (getD book 0 0) t) (book-walks book accepted fits ok t formed one) 0 (whole-lies (bookTree book)))
+
+  -- with no book given
+  pub walked-alone : walk noBook (layout 0 (bookTree book)) t ≡ walkedOf (varsIn book) (lowest book 0 (getD book 0 0) t)
+  walked-alone = laid-out noBook (none-given book)
+
+  -- with the book given too
+  pub walked-with : walk (bookFits book) (layout 0 (bookTree book)) t ≡ walkedOf (varsIn book) (lowest book 0 (getD book 0 0) t)
+  walked-with = laid-out (bookFits book) (book-given book)

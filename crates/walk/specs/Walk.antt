@@ -1,0 +1,170 @@
+-- Document 01, "Walking": the walk over any list of words, whole or damaged.
+use Prim.Native.Nat.{ℕ, zero, suc, _+_, _*_, _-_}
+use mathlib.Core.Bool.{Bool, true, false, _&&_, not}
+use mathlib.Core.List.{List, [], _∷_}
+use mathlib.Core.Option.{Option, none, some}
+use lib.Dec.{eqb, leb, ltb}
+use lib.ListN.{length, getD, take, drop}
+use Rattle.term.specs.Word.{word, pick}
+use Rattle.term.specs.Row.{Row, nothing, node}
+use Rattle.term.specs.Renumber.{goodList}
+use Rattle.term.specs.Part.{isSome, sameO}
+use Rattle.book.specs.Rule.{counted}
+use Rattle.book.specs.Book.{Rule, ruleAt}
+use Rattle.fit.specs.Lowest.{Fitting}
+use Rattle.tree.specs.Tree.{LeafVariable, countsOf}
+use Rattle.tree.specs.Find.{PartAt, rootPart, partOf, enterPart, bodyFor, leafBody}
+
+-- how a walk ends: no rule; a rule with its bodies, and how many variables it has; a damaged node at an address
+pub data Walked : Type 0 where
+  NoneFits : Walked
+  RuleFits : Fitting → ℕ → Walked
+  DamagedAt : ℕ → Walked
+
+-- what a node says: the walk ends there, or goes on at an address with these places uncovered
+pub data Next : Type 0 where
+  Ends : Walked → Next
+  Goes : ℕ → List PartAt → Next
+
+-- the node at an address is damaged unless the test holds
+abbrev pub unless : Bool → ℕ → Next → Next
+unless true at next = next
+unless false at next = Ends (DamagedAt at)
+
+-- "the taken address isn't later and inside"
+unfoldable pub goTo : List ℕ → ℕ → ℕ → List PartAt → Next
+goTo table at to ps = unless (ltb at to && ltb to (length table)) at (Goes to ps)
+
+-- ---- Leaf: rule, n, then for each variable the place, k, the list
+abbrev pub variableThen : LeafVariable → Option (List LeafVariable) → Option (List LeafVariable)
+variableThen v none = none
+variableThen v (some vs) = some (v ∷ vs)
+
+-- none where it runs past the table
+unfoldable pub variablesIn : ℕ → List ℕ → Option (List LeafVariable)
+variablesIn zero ws = some []
+variablesIn (suc n) [] = none
+variablesIn (suc n) (p ∷ []) = none
+variablesIn (suc n) (p ∷ k ∷ ws) = pick (leb k (length ws)) (variableThen (record { at = p; list = take k ws }) (variablesIn n (drop k ws))) none
+
+-- "a place isn't uncovered, .., k > 4, a list isn't distinct ids within 1..d, .. or one of its parts has no body"
+unfoldable pub soundVariable : List PartAt → LeafVariable → Bool
+soundVariable ps v =
+    ltb (v .at) (length ps)
+    && (leb (length (v .list)) 4
+    && (goodList (partOf (v .at) ps .depth) (v .list)
+    && isSome (bodyFor ps (v .at) (v .list))))
+
+unfoldable pub soundVariables : List PartAt → List LeafVariable → Bool
+soundVariables ps [] = true
+soundVariables ps (v ∷ vs) = soundVariable ps v && soundVariables ps vs
+
+abbrev pub leafWith : (ℕ → List ℕ → Bool) → ℕ → List PartAt → ℕ → ℕ → Option (List LeafVariable) → Next
+leafWith fits at ps rule n none = Ends (DamagedAt at)
+leafWith fits at ps rule n (some vs) =
+    unless (soundVariables ps vs) at
+    (unless (fits rule (countsOf vs)) at
+    (Ends (RuleFits (record { number = rule; bodies = leafBody ps vs }) n)))
+
+unfoldable pub leafNode : (ℕ → List ℕ → Bool) → ℕ → List PartAt → List ℕ → Next
+leafNode fits at ps [] = Ends (DamagedAt at)
+leafNode fits at ps (rule ∷ []) = Ends (DamagedAt at)
+leafNode fits at ps (rule ∷ n ∷ ws) = unless (ltb rule 64) at (unless (leb n 16) at (leafWith fits at ps rule n (variablesIn n ws)))
+
+-- ---- Switch: place, cases, (head word, address) each, default address
+unfoldable pub isWord : ℕ → Row → Bool
+isWord w nothing = false
+isWord w (node h kids rest) = eqb w (word h)
+
+-- "the first case whose head is the term's word there", by its address
+unfoldable pub caseOf : Row → ℕ → List ℕ → Option ℕ
+caseOf f zero ws = none
+caseOf f (suc more) [] = none
+caseOf f (suc more) (w ∷ []) = none
+caseOf f (suc more) (w ∷ to ∷ ws) = pick (isWord w f) (some to) (caseOf f more ws)
+
+-- "else the default"; "a case is taken at a place already entered"
+abbrev pub caseNext : List ℕ → ℕ → ℕ → List PartAt → ℕ → Option ℕ → Next
+caseNext table at n ps default none = goTo table at default ps
+caseNext table at n ps default (some to) = unless (not (partOf n ps .entered)) at (goTo table at to (enterPart n ps))
+
+unfoldable pub switchNode : List ℕ → ℕ → List PartAt → List ℕ → Next
+switchNode table at ps [] = Ends (DamagedAt at)
+switchNode table at ps (n ∷ []) = Ends (DamagedAt at)
+switchNode table at ps (n ∷ cases ∷ ws) =
+    unless (ltb n (length ps)) at
+    (unless (ltb (2 * cases) (length ws)) at
+    (caseNext table at n ps (getD ws (2 * cases) 0) (caseOf (partOf n ps .part) cases ws)))
+
+-- ---- Closed: place, k, list, yes, no
+unfoldable pub closedNode : List ℕ → ℕ → List PartAt → List ℕ → Next
+closedNode table at ps [] = Ends (DamagedAt at)
+closedNode table at ps (n ∷ []) = Ends (DamagedAt at)
+closedNode table at ps (n ∷ k ∷ ws) =
+    unless (ltb n (length ps)) at
+    (unless (leb k 4) at
+    (unless (ltb (k + 1) (length ws)) at
+    (unless (goodList (partOf n ps .depth) (take k ws)) at
+    (goTo table at (pick (isSome (bodyFor ps n (take k ws))) (getD ws k 0) (getD ws (k + 1) 0)) ps))))
+
+-- ---- Same: place, place, k, list, list, yes, no
+unfoldable pub sameNode : List ℕ → ℕ → List PartAt → List ℕ → Next
+sameNode table at ps [] = Ends (DamagedAt at)
+sameNode table at ps (n ∷ []) = Ends (DamagedAt at)
+sameNode table at ps (n ∷ m ∷ []) = Ends (DamagedAt at)
+sameNode table at ps (n ∷ m ∷ k ∷ ws) =
+    unless (ltb n (length ps)) at
+    (unless (ltb m (length ps)) at
+    (unless (leb k 4) at
+    (unless (ltb (k + k + 1) (length ws)) at
+    (unless (goodList (partOf n ps .depth) (take k ws)) at
+    (unless (goodList (partOf m ps .depth) (take k (drop k ws))) at
+    (goTo table at
+    (pick (sameO (bodyFor ps n (take k ws)) (bodyFor ps m (take k (drop k ws)))) (getD ws (k + k) 0) (getD ws (k + k + 1) 0)) ps))))))
+
+-- ---- a node: "its tag isn't 0..4, it runs past the table"
+unfoldable pub nodeAt : (ℕ → List ℕ → Bool) → List ℕ → ℕ → List PartAt → List ℕ → Next
+nodeAt fits table at ps [] = Ends (DamagedAt at)
+nodeAt fits table at ps (tag ∷ ws) =
+    pick (eqb tag 0) (Ends NoneFits)
+    (pick (eqb tag 1) (leafNode fits at ps ws)
+    (pick (eqb tag 2) (switchNode table at ps ws)
+    (pick (eqb tag 3) (closedNode table at ps ws)
+    (pick (eqb tag 4) (sameNode table at ps ws)
+    (Ends (DamagedAt at))))))
+
+unfoldable pub nextAt : (ℕ → List ℕ → Bool) → List ℕ → ℕ → List PartAt → Next
+nextAt fits table at ps = nodeAt fits table at ps (drop at table)
+
+-- ---- "The walk begins at 0 and carries the places uncovered so far from node to node."
+abbrev pub follow : (ℕ → List PartAt → Walked) → Next → Walked
+follow go (Ends w) = w
+follow go (Goes to ps) = go to ps
+
+-- each address is later, so there are as many nodes at most as words after it
+unfoldable pub walkBy : ℕ → (ℕ → List ℕ → Bool) → List ℕ → ℕ → List PartAt → Walked
+walkBy zero fits table at ps = DamagedAt at
+walkBy (suc n) fits table at ps = follow (walkBy n fits table) (nextAt fits table at ps)
+
+unfoldable pub walkFrom : (ℕ → List ℕ → Bool) → List ℕ → ℕ → List PartAt → Walked
+walkFrom fits table at ps = walkBy (suc (length table - at)) fits table at ps
+
+-- a table longer than 16,384 words is damaged at 16,384
+unfoldable pub walk : (ℕ → List ℕ → Bool) → List ℕ → Row → Walked
+walk fits table t = pick (leb (length table) 16384) (walkFrom fits table 0 (rootPart t)) (DamagedAt 16384)
+
+-- ---- "Where a book is given too, a Leaf whose rule, n or counts don't fit it is damaged."
+unfoldable pub countsFit : List ℕ → ℕ → List ℕ → Bool
+countsFit left x [] = true
+countsFit left x (k ∷ ks) = eqb (counted x left) (suc k) && countsFit left (suc x) ks
+
+abbrev pub ruleFits : Option Rule → List ℕ → Bool
+ruleFits none ks = false
+ruleFits (some rule) ks = eqb (length ks) (rule .vars) && countsFit (rule .left) 0 ks
+
+unfoldable pub bookFits : List ℕ → ℕ → List ℕ → Bool
+bookFits book rule ks = ruleFits (ruleAt book rule) ks
+
+-- no book is given
+unfoldable pub noBook : ℕ → List ℕ → Bool
+noBook rule ks = true
