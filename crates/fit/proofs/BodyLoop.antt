@@ -20,25 +20,25 @@ use Rattle.fit.specs.Match.{bodyList, lengthList, fitted, matchAnswer, m
 use Rattle.fit.specs.Told.{present, Knows, FirstWritten, BodiesTold}
 
 -- ---- one body more
-body-more : (b : ℕ → Row) (x n : ℕ) → bodyList b x (suc n) ≡ bodyList b x n ++ words (b (x + n))
+pub body-more : (b : ℕ → Row) (x n : ℕ) → bodyList b x (suc n) ≡ bodyList b x n ++ words (b (x + n))
 unfolding bodyList
 body-more b x zero = let z : x + 0 ≡ x = omega arith in rw (z, append-nil (words (b x)))
 body-more b x (suc n) =
     let z : x + suc n ≡ suc x + n = omega arith in
     rw z (ap (λ (r : List ℕ). words (b x) ++ r) (body-more b (suc x) n) ∙ sym (append-assoc (words (b x)) (bodyList b (suc x) n) (words (b (suc x + n)))))
 
-length-more : (b : ℕ → Row) (x n : ℕ) → lengthList b x (suc n) ≡ lengthList b x n ++ (length (words (b (x + n))) ∷ [])
+pub length-more : (b : ℕ → Row) (x n : ℕ) → lengthList b x (suc n) ≡ lengthList b x n ++ (length (words (b (x + n))) ∷ [])
 unfolding lengthList
 length-more b x zero = let z : x + 0 ≡ x = omega arith in rw z
 length-more b x (suc n) = let z : x + suc n ≡ suc x + n = omega arith in rw z (ap (λ (r : List ℕ). length (words (b x)) ∷ r) (length-more b (suc x) n))
 
-lengths-long : (b : ℕ → Row) (x n : ℕ) → length (lengthList b x n) ≡ n
+pub lengths-long : (b : ℕ → Row) (x n : ℕ) → length (lengthList b x n) ≡ n
 unfolding lengthList
 lengths-long b x zero = refl
 lengths-long b x (suc n) = ap suc (lengths-long b (suc x) n)
 
 -- the bodies of the first variables are no longer than all
-body-longer : (b : ℕ → Row) (x n m : ℕ) → n ≤ m → length (bodyList b x n) ≤ length (bodyList b x m)
+pub body-longer : (b : ℕ → Row) (x n m : ℕ) → n ≤ m → length (bodyList b x n) ≤ length (bodyList b x m)
 unfolding bodyList
 body-longer b x zero m h = omega arith
 body-longer b x (suc n) zero h = absurd (omega arith)
@@ -59,7 +59,7 @@ pub record SoFar (vars : ℕ) (left term table : List ℕ) (room : ℕ) (bodies 
       → (at ≡ length (bodyList (bodyIn l) 0 x)) × (bodies ≡ bodyList (bodyIn l) 0 x ++ replicate (room - at) 0) × (lengths ≡ lengthList (bodyIn l) 0 x ++ replicate (16 - x) 0)
 
 -- a word set behind a list
-set-behind : (xs : List ℕ) (v z : ℕ) (ys : List ℕ) → set (xs ++ (z ∷ ys)) (length xs) v ≡ xs ++ (v ∷ ys)
+pub set-behind : (xs : List ℕ) (v z : ℕ) (ys : List ℕ) → set (xs ++ (z ∷ ys)) (length xs) v ≡ xs ++ (v ∷ ys)
 set-behind [] v z ys = refl
 set-behind (x ∷ xs) v z ys = ap (λ (r : List ℕ). x ∷ r) (set-behind xs v z ys)
 

@@ -27,3 +27,9 @@ pub use Rattle.fit.proofs.BuildAnswers.{within-is, over-is}
 -- Built then matched, and matched then built: over words, and over what the operations answer and leave.
 pub use Rattle.fit.proofs.RoundTrip.{built-then-matched, matched-then-built}
 pub use Rattle.fit.proofs.RoundAnswers.{build-match, match-build}
+-- Bodies written one after the other, of whatever kind, and what is left of a refusal.
+pub use Rattle.fit.proofs.InOrder.{Leaves, refused-leaves, SoMany, many-start, many-short, many-done, many-more}
+-- Building and its limits: the clauses of their definitions.
+pub use Rattle.fit.proofs.Clauses.{build-end, build-hole, build-part, largest-nothing, largest-node, within-limits-is, limited-is}
+pub use Rattle.fit.proofs.Clauses.{LowestFits, lowest-none, lowest-some}
+pub use Rattle.fit.proofs.Limits.{within-limits}

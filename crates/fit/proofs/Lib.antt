@@ -26,7 +26,9 @@ mod RoundTrip
 mod RoundAnswers
 mod First
 mod BodyLoop
+mod InOrder
 mod OneRule
 mod Matched
 mod Computed
+mod Clauses
 pub mod Laws

@@ -41,3 +41,6 @@ pub use Rattle.term.proofs.Leavings.{written-fits, written-short, padde
 pub use Rattle.term.proofs.Imaged.{image-wrote, image-stuck, every-nothing, every-node, small-formed}
 -- Two results that meet one promise are equal.
 pub use Rattle.term.proofs.Settled.{settled, settled-both, settled-three}
+-- Renumbering, head by head; every variable of a row, node by node.
+pub use Rattle.term.proofs.Renumbers.{EveryHead}
+pub use Rattle.term.proofs.Heads.{renumber-symbol, renumber-abstraction, renumber-variable, renumber-pattern, inside-variable, variable-id, id-variable, every-parts}

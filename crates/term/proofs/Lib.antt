@@ -13,6 +13,7 @@ mod Walks
 mod Answers
 mod Leavings
 mod Imaged
+mod Heads
 mod Clauses
 mod Computed
 mod Settled

@@ -12,3 +12,7 @@ pub use Rattle.tree.proofs.Walks.{SoundVariable, AllSound, SoundPlace, 
 pub use Rattle.tree.proofs.Ways.{RowFacts, AllFacts, tree-walks, CountsAre, varsOf, varsIn, FitsBook, book-walks}
 -- Each uncovered place is another part of the term.
 pub use Rattle.tree.proofs.Totals.{total, length-total, total-entered, total-root}
+-- Uncovered places: the clauses of their definitions.
+pub use Rattle.tree.proofs.Clauses.{part-first, part-later, marked-none, marked-first, marked-later, child-parts-none, child-parts-more, inside-of, enter-is, body-for-is, leaf-first, leaf-later}
+-- Each uncovered part of a term is one term, and a sound Leaf gives its variables bodies.
+pub use Rattle.tree.proofs.TermParts.{part-root, AllTerms, terms-root, terms-entered, leaf-terms, length-counts}

@@ -11,12 +11,25 @@ mod Firsts
 mod Finds
 mod Books
 mod Layouts
+mod Sweeps
+mod TableLaws
+mod NumberLaws
+mod WordLaws
+mod Restores
+mod RowsLeft
+mod SpotHeads
+mod Strikes
+mod Lowests
+mod LowestRow
+mod NewHeads
 mod Walks
 mod Ways
+mod Clauses
 mod Bounds
 mod Starts
 mod Kept
 mod LeftRows
 mod Totals
+mod TermParts
 mod Computed
 pub mod Laws

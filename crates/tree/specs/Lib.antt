@@ -5,3 +5,5 @@ pub mod Compile
 pub mod Find
 pub mod Layout
 pub mod Compiled
+pub mod Tables
+pub mod Stands

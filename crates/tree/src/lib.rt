@@ -1,1 +1,6 @@
-// The tree: document 01's "The tree". Its definitions and theorems are in specs/ and proofs/; the compiler is not here yet.
+// The tree: document 01's "The tree".
+mod constraints;
+mod heads;
+mod numbers;
+mod table;
+mod words;

@@ -31,9 +31,9 @@ module _ (book : List ℕ) (accepted : checkBook book ≡ Good) (short : length 
   unfolding matchTree
   tree-match = rw (tree-good termLimits ws term, walked)
 
-  pub tree-rule : matchTreeRule (treeWords book) ws ≡ walkedRule (walkedOf (varsIn book) best)
+  pub tree-rule : (room : ℕ) → matchTreeRule room (treeWords book) ws ≡ walkedRule room (walkedOf (varsIn book) best)
   unfolding matchTreeRule
-  tree-rule = rw (tree-good termLimits ws term, walked)
+  tree-rule room = rw (tree-good termLimits ws term, walked)
 
   -- `best` is the lowest rule for which some bodies, of all there could be, turn its left side into the term; none only where there are none
   pub best-is : LowestIs book 0 (getD book 0 0) (term .tree) best

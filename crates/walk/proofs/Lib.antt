@@ -1,7 +1,18 @@
 -- What a crate above may cite is Laws.
+mod Addresses
+mod Tells
+mod Uncovered
+mod Entering
+mod Judged
+mod Variables
+mod Leaves
+mod Walking
+mod Answers
 mod Nodes
 mod Steps
 mod Places
+mod Sound
+mod Skips
 mod Laid
 mod Demand
 mod Computed

@@ -1,2 +1,4 @@
 pub mod Walk
 pub mod ByTree
+pub mod Taken
+pub mod State

@@ -1,1 +1,5 @@
-// Walking a tree in words: document 01's "Walking". Its definitions and theorems are in specs/ and proofs/; the operation is not here yet.
+// Walking a tree in words: document 01's "Walking".
+pub mod by_tree;
+mod leaf;
+mod state;
+mod taken;

@@ -1,0 +1,178 @@
+-- Demand 3 seen from here: with the tree compiled from an accepted book each step is at the lowest offset at which some rule fits at all, by the lowest rule that fits there.
+-- So simplifying is read without trees: rules, bodies, offsets and limits.
+use mathlib.Core.Path.{_≡_, refl, sym, ap, _∙_}
+use mathlib.Core.Bool.{Bool, true, false}
+use mathlib.Core.List.{List}
+use mathlib.Core.Option.{Option, none, some}
+use Prim.Native.Nat.{ℕ, zero, suc, _≤_, _<_}
+use native.Mathlib.Omega.{arith}
+use lib.ListN.{length, getD}
+use Rattle.term.specs.declared.check.Checked.the-variants.{Good}
+use Rattle.term.specs.declared.answer.Answer.{Answer}
+use Rattle.term.specs.declared.answer.Answer.the-variants.{Done, BudgetUsed, Over}
+use Rattle.term.specs.Word.{pick}
+use Rattle.term.specs.Row.{Row, words}
+use Rattle.term.specs.Check.{IsTerm, termLimits}
+use Rattle.term.proofs.Laws.{never, tree-good}
+use Rattle.book.specs.Book.{checkBook}
+use Rattle.fit.specs.Fit.{IsBody}
+use Rattle.fit.specs.Lowest.{Fitting, lowest}
+use Rattle.fit.specs.Build.{withinLimits}
+use Rattle.fit.proofs.Laws.{tree-of, LowestIs, book-lowest}
+use Rattle.tree.specs.Compiled.{treeWords}
+use Rattle.tree.proofs.Laws.{varsIn, tree-words}
+use Rattle.walk.specs.Walk.{NoneFits, RuleFits, DamagedAt, walk, bookFits}
+use Rattle.walk.proofs.Laws.{walkedOf, walked-with}
+use Rattle.steps.specs.Rewrite.{rewritten, walkedRoot, rewriteRoot}
+use Rattle.steps.specs.Offset.{partAt, spliced}
+use Rattle.steps.specs.Step.{Sought, Nowhere, FoundAt, Broken, lowestOffset, Stepped, Rests, Becomes, Refused, wholeWithin, stepFound, step}
+use Rattle.steps.specs.Simplify.{Run, Stopped, Ended, simplifyBy, simplify}
+use Rattle.steps.proofs.Steps.{SeekIs, lowest-offset-is, part-term, step-term, StepsTo, EndsAs, rests, used, StopsAs, broken, over, RunIs, run-is, steps-term}
+
+pub term-row : (ws : List ℕ) (i : IsTerm ws) → IsBody (i .tree)
+term-row ws i = record { one = i .one; formed = i .formed; few = i .few; low = i .low; short = rw (i .same) at (i .short) }
+
+abbrev pub row-term : (t : Row) → IsBody t → IsTerm (words t)
+row-term t i = record { tree = t; one = i .one; formed = i .formed; few = i .few; low = i .low; short = i .short; same = refl }
+
+module _ (book : List ℕ) where
+  -- the lowest of the book's rules for which some bodies, of all there could be, turn its left side into the tree at an offset, with these bodies; none only where there is none
+  abbrev pub FitsAt : Row → ℕ → Option Fitting → Type 0
+  FitsAt t at o = LowestIs book 0 (getD book 0 0) (partAt t at) o
+
+  -- the lowest offset at which some rule fits, and the lowest rule that fits there
+  abbrev pub FirstFit : Row → Sought → Type 0
+  FirstFit t Nowhere = (k : ℕ) → k < length (words t) → FitsAt t k none
+  FirstFit t (FoundAt at f) = (at < length (words t)) × FitsAt t at (some f) × ((k : ℕ) → k < at → FitsAt t k none)
+  FirstFit t (Broken address) = ⊥
+
+  -- one step: the part there becomes what the rule writes, and the whole is within the limits
+  pub record OneStep (t u : Row) : Type 0 where
+    pub at : ℕ
+    pub fitting : Fitting
+    pub first : FirstFit t (FoundAt at fitting)
+    pub is : u ≡ spliced t at (rewritten book fitting)
+    pub within : withinLimits u ≡ true
+
+  unfoldable pub Reaches : ℕ → Row → Row → Type 0
+  Reaches zero t v = t ≡ v
+  Reaches (suc n) t v = (u : Row) × OneStep t u × Reaches n u v
+
+  -- no rule fits anywhere, or the budget is used and a rule still fits
+  pub data Rested (budget n : ℕ) (v : Row) (a : Answer) : Type 0 where
+    normal : a ≡ Done → FirstFit v Nowhere → Rested budget n v a
+    unfinished : a ≡ BudgetUsed → n ≡ budget → (at : ℕ) (f : Fitting) → FirstFit v (FoundAt at f) → Rested budget n v a
+
+  -- the next step is over the limits
+  pub record TooLarge (budget n : ℕ) (v : Row) (a : Answer) : Type 0 where
+    pub answer : a ≡ Over
+    pub left : n < budget
+    pub at : ℕ
+    pub fitting : Fitting
+    pub first : FirstFit v (FoundAt at fitting)
+    pub large : withinLimits (spliced v at (rewritten book fitting)) ≡ false
+
+  abbrev pub Simplified : ℕ → Row → Run → Type 0
+  Simplified budget t (Stopped n a) = (v : Row) × Reaches n t v × (n ≤ budget) × TooLarge budget n v a
+  Simplified budget t (Ended n a v) = Reaches n t v × (n ≤ budget) × Rested budget n v a
+
+module _ (book : List ℕ) (accepted : checkBook book ≡ Good) (short : length (treeWords book) ≤ 16384) where
+  abbrev best : Row → Option Fitting
+  best p = lowest book 0 (getD book 0 0) p
+
+  looks : (p : Row) → IsBody p → walk (bookFits book) (treeWords book) p ≡ walkedOf (varsIn book) (best p)
+  looks p i = rw (tree-words book) (walked-with book accepted (rw (tree-words book) at short) p (i .formed) (i .one))
+
+  best-is : (p : Row) → IsBody p → LowestIs book 0 (getD book 0 0) p (best p)
+  best-is p i = book-lowest book accepted (words p) (row-term p i)
+
+  -- ---- what a walk says is what fits
+  none-of : (o : Option Fitting) → walkedOf (varsIn book) o ≡ NoneFits → o ≡ none
+  none-of none e = refl
+  none-of (some f) e = never (cc)
+
+  some-of : (o : Option Fitting) (f : Fitting) (n : ℕ) → walkedOf (varsIn book) o ≡ RuleFits f n → o ≡ some f
+  some-of none f n e = never (cc)
+  some-of (some g) f n e = cc
+
+  never-damaged : (o : Option Fitting) (address : ℕ) → walkedOf (varsIn book) o ≡ DamagedAt address → ⊥
+  never-damaged none address e = never (cc)
+  never-damaged (some f) address e = never (cc)
+
+  module _ (t : Row) (i : IsBody t) where
+    none-at : (k : ℕ) → k < length (words t) → walk (bookFits book) (treeWords book) (partAt t k) ≡ NoneFits → FitsAt book t k none
+    none-at k l e =
+        let p = part-term t i k l in
+        rw (none-of (best (partAt t k)) (sym (looks (partAt t k) p) ∙ e)) at (best-is (partAt t k) p)
+
+    first-fit : (s : Sought) → SeekIs (walk (bookFits book) (treeWords book)) t 0 (length (words t)) s → FirstFit book t s
+    first-fit Nowhere p = λ k l. none-at k l (p k (omega arith) l)
+    first-fit (FoundAt at f) p =
+        let q = part-term t i at (p .1 .inside) in (
+          p .1 .inside,
+          rw (some-of (best (partAt t at)) f (p .0) (sym (looks (partAt t at) q) ∙ p .1 .here)) at (best-is (partAt t at) q),
+          λ k l. none-at k (omega (arith, l, p .1 .inside)) (p .1 .earlier k (omega arith) l),
+        )
+    first-fit (Broken address) p =
+        let q = part-term t i (p .0) (p .1 .inside) in
+        never-damaged (best (partAt t (p .0))) address (sym (looks (partAt t (p .0)) q) ∙ p .1 .here)
+
+    -- the walk is at the lowest offset at which some rule fits, with the lowest rule that fits there; it meets no damage
+    pub compiled-offset : FirstFit book t (lowestOffset book (treeWords book) t)
+    compiled-offset = first-fit (lowestOffset book (treeWords book) t) (lowest-offset-is book (treeWords book) t)
+
+    compiled-found : (s : Sought) → lowestOffset book (treeWords book) t ≡ s → FirstFit book t s
+    compiled-found s e = rw e at compiled-offset
+
+    abbrev StepO : Stepped → Type 0
+    StepO Rests = FirstFit book t Nowhere
+    StepO (Becomes u) = OneStep book t u
+    StepO (Refused a) = a ≡ Over
+
+    step-o : (s : Sought) → lowestOffset book (treeWords book) t ≡ s → StepO (stepFound book t s)
+    unfolding wholeWithin
+    step-o Nowhere e = compiled-found Nowhere e
+    step-o (FoundAt at f) e = go (withinLimits (spliced t at (rewritten book f))) refl
+      where
+        go : (b : Bool) → withinLimits (spliced t at (rewritten book f)) ≡ b → StepO (pick b (Becomes (spliced t at (rewritten book f))) (Refused Over))
+        go true q = record { at = at; fitting = f; first = compiled-found (FoundAt at f) e; is = refl; within = q }
+        go false q = refl
+    step-o (Broken address) e = absurd (compiled-found (Broken address) e)
+
+    pub compiled-step : StepO (step book (treeWords book) t)
+    unfolding step
+    compiled-step = step-o (lowestOffset book (treeWords book) t) refl
+
+  -- ---- simplifying
+  reaches : (n : ℕ) (t v : Row) → IsBody t → StepsTo book (treeWords book) n t v → Reaches book n t v
+  unfolding Reaches StepsTo
+  reaches zero t v i s = s
+  reaches (suc n) t v i s =
+      (s .0, rw (s .1) at (compiled-step t i), reaches n (s .0) v (step-term book accepted (treeWords book) t (s .0) i (s .1)) (s .2))
+
+  rested : (budget n : ℕ) (v : Row) (a : Answer) → IsBody v → EndsAs book (treeWords book) budget n v a → Rested book budget n v a
+  rested budget n v a i (rests e q) = normal e (rw q at (compiled-offset v i))
+  rested budget n v a i (used e m at f q) = unfinished e m at f (rw q at (compiled-offset v i))
+
+  too-large : (budget n : ℕ) (v : Row) (a : Answer) → IsBody v → StopsAs book (treeWords book) budget n v a → TooLarge book budget n v a
+  too-large budget n v a i (broken address e q) = absurd (rw q at (compiled-offset v i))
+  too-large budget n v a i (over e m at f q w) = record { answer = e; left = m; at = at; fitting = f; first = rw q at (compiled-offset v i); large = w }
+
+  run-of : (budget : ℕ) (t : Row) → IsBody t → (r : Run) → RunIs book (treeWords book) budget t r → Simplified book budget t r
+  run-of budget t i (Stopped n a) r =
+      (r .0, reaches n t (r .0) i (r .1), r .2, too-large budget n (r .0) a (steps-term book (treeWords book) accepted n t (r .0) i (r .1)) (r .3))
+  run-of budget t i (Ended n a v) r =
+      (reaches n t v i (r .0), r .1, rested budget n v a (steps-term book (treeWords book) accepted n t v i (r .0)) (r .2))
+
+  module _ (ws : List ℕ) (term : IsTerm ws) where
+    -- simplifying a term with the compiled tree: as many steps as it says, each at the lowest offset at which some rule fits, to a term in which none fits, or as far as the budget or the limits go
+    pub compiled-simplify : (budget : ℕ) → Simplified book budget (term .tree) (simplify book (treeWords book) budget ws)
+    unfolding simplify
+    compiled-simplify budget =
+        rw (accepted, tree-good termLimits ws term, tree-of termLimits ws term)
+        (run-of budget (term .tree) (term-row ws term) (simplifyBy book (treeWords book) budget (term .tree)) (run-is book (treeWords book) budget (term .tree)))
+
+    -- rewriting at the root with the compiled tree: by the lowest rule that fits
+    pub compiled-root : rewriteRoot book (treeWords book) ws ≡ walkedRoot book (walkedOf (varsIn book) (lowest book 0 (getD book 0 0) (term .tree)))
+    unfolding rewriteRoot
+    compiled-root = rw (accepted, tree-good termLimits ws term, tree-of termLimits ws term) (ap (walkedRoot book) (looks (term .tree) (term-row ws term)))

@@ -1,0 +1,186 @@
+-- What is said of simplifying without trees settles it: the lowest offset, the lowest rule there and its bodies are the only ones, so each step has one outcome, and so has a run.
+use mathlib.Core.Path.{_≡_, refl, sym, ap, ap₂, _∙_}
+use mathlib.Core.Bool.{Bool, true, false}
+use mathlib.Core.List.{List}
+use mathlib.Core.Option.{Option, none, some}
+use Prim.Native.Nat.{ℕ, zero, suc, _≤_, _<_}
+use native.Mathlib.Omega.{arith}
+use lib.Dec.{ltb}
+use lib.ListN.{getD}
+use borrow.Author.Tests.{ltb-true, ltb-false}
+use Rattle.term.specs.declared.check.Checked.the-variants.{Good}
+use Rattle.term.specs.declared.answer.Answer.{Answer}
+use Rattle.term.specs.Word.{Head, symbol, abstraction, variable, pattern}
+use Rattle.term.specs.Row.{Row, nothing, node, _⧺_}
+use Rattle.term.specs.Renumber.{inside}
+use Rattle.term.proofs.Laws.{never}
+use Rattle.book.specs.Book.{Rule, checkBook, ruleAt}
+use Rattle.fit.specs.Fit.{IsBody}
+use Rattle.fit.specs.Match.{treeOf, leftIn}
+use Rattle.fit.specs.Lowest.{Fitting}
+use Rattle.fit.specs.Build.{withinLimits}
+use Rattle.fit.proofs.Laws.{WithinTerm, unique, accepted-good, LowestIs, LowestFits, lowest-none, lowest-some}
+use Rattle.steps.specs.Right.{replaced, inBody, writtenTree, write}
+use Rattle.steps.specs.Told.{RightHead, RightRow}
+use Rattle.steps.specs.Rewrite.{rightIn, rewritten}
+use Rattle.steps.specs.Offset.{partAt, spliced}
+use Rattle.steps.specs.Step.{Nowhere, FoundAt}
+use Rattle.steps.specs.Simplify.{Run, Stopped, Ended}
+use Rattle.steps.proofs.Writing.{write-nothing, write-node}
+use Rattle.steps.proofs.RightRows.{parametersOf, accepted-right}
+use Rattle.steps.proofs.Steps.{part-term, rule-writes, spliced-term}
+use Rattle.steps.proofs.Demand.{FirstFit, OneStep, Reaches, Rested, normal, unfinished, TooLarge, Simplified}
+
+-- ---- writing asks for the bodies of the rule's variables alone
+module _ (vars : ℕ) (k : ℕ → ℕ) (b c : ℕ → Row) (same : (x : ℕ) → x < vars → b x ≡ c x) where
+  same-tree : (d : ℕ) (h : Head) (children : Row) → RightHead vars k d h → writtenTree b d h children ≡ writtenTree c d h children
+  same-tree d (symbol i n) children r = refl
+  same-tree d abstraction children r = refl
+  same-tree d (variable i) children r = refl
+  same-tree d (pattern x n) children r = ap (replaced (inBody d children) 0) (same x (r .0))
+
+  pub write-same : (d : ℕ) (p : Row) → RightRow vars k d p → write b d p ≡ write c d p
+  unfolding RightRow
+  write-same d nothing r = write-nothing b d ∙ sym (write-nothing c d)
+  write-same d (node h kids rest) r =
+      write-node b d h kids rest
+      ∙ ap₂ _⧺_ (ap (writtenTree b d h) (write-same (inside h d) kids (r .3)) ∙ same-tree d h (write c (inside h d) kids) (r .2)) (write-same d rest (r .4))
+      ∙ sym (write-node c d h kids rest)
+
+-- ---- two numbers of which neither is smaller
+equal-numbers : (n m : ℕ) → (n < m → ⊥) → (m < n → ⊥) → n ≡ m
+equal-numbers n m a b = go (ltb n m) (ltb m n) refl refl
+  where
+    go : (p q : Bool) → ltb n m ≡ p → ltb m n ≡ q → n ≡ m
+    go true q e f = absurd (a (ltb-true n m e))
+    go false true e f = absurd (b (ltb-true m n f))
+    go false false e f = let x = ltb-false n m e in let y = ltb-false m n f in omega arith
+
+module _ (book : List ℕ) (accepted : checkBook book ≡ Good) where
+  -- ---- the lowest rule that fits a term, and its bodies, are the only ones
+  module _ (p : Row) (i : IsBody p) (f g : Fitting) (a : LowestFits book 0 (getD book 0 0) p f) (c : LowestFits book 0 (getD book 0 0) p g) where
+    within : WithinTerm p
+    within = record { formed = i .formed; few = i .few; low = i .low; short = i .short }
+
+    same-number : f .number ≡ g .number
+    same-number =
+        equal-numbers (f .number) (g .number)
+        (λ l. c .earlier (f .number) (omega arith) l (a .rule) (a .found) (f .bodies) (a .fits))
+        (λ l. a .earlier (g .number) (omega arith) l (c .rule) (c .found) (g .bodies) (c .fits))
+
+    same-rule : a .rule ≡ c .rule
+    same-rule = let e : some (a .rule) ≡ some (c .rule) = sym (a .found) ∙ ap (ruleAt book) same-number ∙ c .found in cc
+
+    same-bodies : (x : ℕ) → x < a .rule .vars → f .bodies x ≡ g .bodies x
+    same-bodies x h =
+        unique (a .rule .vars) (leftIn (a .rule)) (accepted-good book accepted (f .number) (a .rule) (a .found)) p within (i .one) (f .bodies) (g .bodies) (a .fits)
+        (rw same-rule (c .fits)) x h
+
+    pub same-written : rewritten book f ≡ rewritten book g
+    unfolding rewritten
+    same-written =
+        let r = accepted-right book accepted (f .number) (a .rule) (a .found) in
+        ap (λ (o : Option Rule). write (f .bodies) 0 (rightIn o)) (a .found)
+        ∙ write-same (a .rule .vars) (parametersOf (a .rule .left)) (f .bodies) (g .bodies) same-bodies 0 (treeOf (a .rule .right)) (r .0)
+        ∙ ap (λ (o : Option Rule). write (g .bodies) 0 (rightIn o)) (sym (a .found) ∙ ap (ruleAt book) same-number)
+
+  -- ---- the lowest offset is the only one
+  fits-none : (p : Row) (f : Fitting) → LowestIs book 0 (getD book 0 0) p (some f) → LowestIs book 0 (getD book 0 0) p none → ⊥
+  fits-none p f a n =
+      let l = lowest-some book 0 (getD book 0 0) p f a in
+      lowest-none book 0 (getD book 0 0) p n (f .number) (omega arith) (l .below) (l .rule) (l .found) (f .bodies) (l .fits)
+
+  nowhere-found : (t : Row) (at : ℕ) (f : Fitting) → FirstFit book t Nowhere → FirstFit book t (FoundAt at f) → ⊥
+  nowhere-found t at f n a = fits-none (partAt t at) f (a .1) (n at (a .0))
+
+  module _ (t : Row) (i : IsBody t) (m n : ℕ) (f g : Fitting) (a : FirstFit book t (FoundAt m f)) (c : FirstFit book t (FoundAt n g)) where
+    same-offset : m ≡ n
+    same-offset = equal-numbers m n (λ l. fits-none (partAt t m) f (a .1) (c .2 m l)) (λ l. fits-none (partAt t n) g (c .1) (a .2 n l))
+
+    pub same-spliced : spliced t m (rewritten book f) ≡ spliced t n (rewritten book g)
+    same-spliced =
+        let e = same-offset in
+        let q : LowestIs book 0 (getD book 0 0) (partAt t m) (some g) = rw e (c .1) in
+        ap₂ (spliced t) e
+        (same-written (partAt t m) (part-term t i m (a .0)) f g
+        (lowest-some book 0 (getD book 0 0) (partAt t m) f (a .1)) (lowest-some book 0 (getD book 0 0) (partAt t m) g q))
+
+  -- a step has one outcome, and that is a term
+  pub one-outcome : (t u v : Row) → IsBody t → OneStep book t u → OneStep book t v → u ≡ v
+  one-outcome t u v i a c = a .is ∙ same-spliced t i (a .at) (c .at) (a .fitting) (c .fitting) (a .first) (c .first) ∙ sym (c .is)
+
+  outcome-term : (t u : Row) → IsBody t → OneStep book t u → IsBody u
+  outcome-term t u i s =
+      let l = lowest-some book 0 (getD book 0 0) (partAt t (s .at)) (s .fitting) (s .first .1) in
+      rw (s .is)
+      (spliced-term book accepted book t i (s .at) (s .first .0) (rewritten book (s .fitting))
+      (rule-writes book accepted book (s .fitting) (l .rule) (l .found) (λ x h. l .fits .bodies x h)) (sym (ap withinLimits (s .is)) ∙ s .within))
+
+  -- ---- a run has one end
+  data Halts (budget n : ℕ) (v : Row) : Type 0 where
+    full : n ≡ budget → Halts budget n v
+    stuck : ((u : Row) → OneStep book v u → ⊥) → Halts budget n v
+
+  halts-less : (budget n : ℕ) (v : Row) → Halts (suc budget) (suc n) v → Halts budget n v
+  halts-less budget n v (full e) = full (omega arith)
+  halts-less budget n v (stuck s) = stuck s
+
+  no-first : (budget m : ℕ) (t u : Row) → Halts budget 0 t → OneStep book t u → suc m ≤ budget → ⊥
+  no-first budget m t u (full e) s l = omega arith
+  no-first budget m t u (stuck h) s l = h u s
+
+  one-end : (budget n m : ℕ) (t v w : Row) → IsBody t → Reaches book n t v → Reaches book m t w → n ≤ budget → m ≤ budget → Halts budget n v → Halts budget m w → (n ≡ m) × (v ≡ w)
+  unfolding Reaches
+  one-end budget zero zero t v w i r s a c h k = (refl, sym r ∙ s)
+  one-end budget zero (suc m) t v w i r s a c h k = absurd (no-first budget m t (s .0) (rw (sym r) at h) (s .1) c)
+  one-end budget (suc n) zero t v w i r s a c h k = absurd (no-first budget n t (r .0) (rw (sym s) at k) (r .1) a)
+  one-end zero (suc n) (suc m) t v w i r s a c h k = absurd (omega arith)
+  one-end (suc budget) (suc n) (suc m) t v w i r s a c h k =
+      let e = one-outcome t (r .0) (s .0) i (r .1) (s .1) in
+      let q = one-end budget n m (r .0) v w (outcome-term t (r .0) i (r .1)) (r .2) (rw e (s .2)) (omega arith) (omega arith) (halts-less budget n v h) (halts-less budget m w k) in
+      (ap suc (q .0), q .1)
+
+  rested-halts : (budget n : ℕ) (v : Row) (a : Answer) → Rested book budget n v a → Halts budget n v
+  rested-halts budget n v a (normal e f) = stuck (λ u s. nowhere-found v (s .at) (s .fitting) f (s .first))
+  rested-halts budget n v a (unfinished e m at f p) = full m
+
+  large-halts : (budget n : ℕ) (v : Row) (a : Answer) → IsBody v → TooLarge book budget n v a → Halts budget n v
+  large-halts budget n v a i l =
+      stuck (λ u s.
+      let e = s .is ∙ same-spliced v i (s .at) (l .at) (s .fitting) (l .fitting) (s .first) (l .first) in
+      let q : withinLimits (spliced v (l .at) (rewritten book (l .fitting))) ≡ true = sym (ap withinLimits e) ∙ s .within in
+      let z = l .large in
+      never (cc))
+
+  reached-term : (n : ℕ) (t v : Row) → IsBody t → Reaches book n t v → IsBody v
+  unfolding Reaches
+  reached-term zero t v i r = rw r at i
+  reached-term (suc n) t v i r = reached-term n (r .0) v (outcome-term t (r .0) i (r .1)) (r .2)
+
+  -- ---- the answer at the end
+  same-answer : (budget n : ℕ) (v : Row) (a c : Answer) → Rested book budget n v a → Rested book budget n v c → a ≡ c
+  same-answer budget n v a c (normal e f) (normal g h) = e ∙ sym g
+  same-answer budget n v a c (normal e f) (unfinished g m at x y) = absurd (nowhere-found v at x f y)
+  same-answer budget n v a c (unfinished e m at x y) (normal g h) = absurd (nowhere-found v at x h y)
+  same-answer budget n v a c (unfinished e m at x y) (unfinished g o to z u) = e ∙ sym g
+
+  not-both : (budget n : ℕ) (v : Row) (a c : Answer) → Rested book budget n v a → TooLarge book budget n v c → ⊥
+  not-both budget n v a c (normal e f) l = nowhere-found v (l .at) (l .fitting) f (l .first)
+  not-both budget n v a c (unfinished e m at x y) l = omega (arith, m, l .left)
+
+  -- two runs of which this is said are one
+  pub one-run : (budget : ℕ) (t : Row) → IsBody t → (r s : Run) → Simplified book budget t r → Simplified book budget t s → r ≡ s
+  one-run budget t i (Ended n a v) (Ended m c w) x y =
+      let e = one-end budget n m t v w i (x .0) (y .0) (x .1) (y .1) (rested-halts budget n v a (x .2)) (rested-halts budget m w c (y .2)) in
+      let q : a ≡ c = same-answer budget n v a c (x .2) (rw (e .0, e .1) (y .2)) in
+      rw (e .0, e .1, q)
+  one-run budget t i (Ended n a v) (Stopped m c) x y =
+      let e = one-end budget n m t v (y .0) i (x .0) (y .1) (x .1) (y .2) (rested-halts budget n v a (x .2)) (large-halts budget m (y .0) c (reached-term m t (y .0) i (y .1)) (y .3)) in
+      absurd (not-both budget m (y .0) a c (rw (e .0, e .1) at (x .2)) (y .3))
+  one-run budget t i (Stopped n a) (Ended m c w) x y =
+      let e = one-end budget m n t w (x .0) i (y .0) (x .1) (y .1) (x .2) (rested-halts budget m w c (y .2)) (large-halts budget n (x .0) a (reached-term n t (x .0) i (x .1)) (x .3)) in
+      absurd (not-both budget n (x .0) c a (rw (e .0, e .1) at (y .2)) (x .3))
+  one-run budget t i (Stopped n a) (Stopped m c) x y =
+      let e = one-end budget n m t (x .0) (y .0) i (x .1) (y .1) (x .2) (y .2) (large-halts budget n (x .0) a (reached-term n t (x .0) i (x .1)) (x .3))
+      (large-halts budget m (y .0) c (reached-term m t (y .0) i (y .1)) (y .3)) in
+      ap₂ Stopped (e .0) (x .3 .answer ∙ sym (y .3 .answer))

@@ -1,0 +1,214 @@
+-- A step is at the lowest offset where the walk finds a rule, and leaves a term; simplifying makes as many steps as it says, and ends where it says. For every tree, whole or damaged.
+use mathlib.Core.Path.{_≡_, refl, ap, _∙_}
+use mathlib.Core.Bool.{Bool, true, false}
+use mathlib.Core.List.{List, _++_}
+use mathlib.Core.Option.{some}
+use Prim.Native.Nat.{ℕ, zero, suc, _+_, _≤_, _<_}
+use native.Mathlib.Omega.{arith}
+use lib.Dec.{eqb}
+use lib.ListN.{length, length-append}
+use borrow.Author.Tests.{eqb-true, eqb-false}
+use Rattle.term.specs.declared.check.Checked.the-variants.{Good}
+use Rattle.term.specs.declared.answer.Answer.{Answer}
+use Rattle.term.specs.declared.answer.Answer.the-variants.{Done, BudgetUsed, Damaged, Over}
+use Rattle.term.specs.Word.{pick}
+use Rattle.term.specs.Row.{Row, width, words, kinds}
+use Rattle.book.specs.Book.{Rule, checkBook, ruleAt}
+use Rattle.fit.specs.Fit.{IsBody}
+use Rattle.fit.specs.Lowest.{Fitting}
+use Rattle.fit.specs.Match.{treeOf}
+use Rattle.fit.specs.Build.{withinLimits}
+use Rattle.walk.specs.Walk.{Walked, NoneFits, RuleFits, DamagedAt, walk, bookFits}
+use Rattle.walk.proofs.Laws.{FoundSound, walk-sound, fits-rule}
+use Rattle.steps.specs.Rewrite.{rewritten}
+use Rattle.steps.specs.Offset.{partAt, spliced}
+use Rattle.steps.specs.Step.{Sought, Nowhere, FoundAt, Broken, orLater, seekRule, lowestOffset, Stepped, Rests, Becomes, Refused, wholeWithin, stepFound, step}
+use Rattle.steps.specs.Simplify.{Run, Stopped, Ended, oneMore, budgetUsed, afterStep, simplifyBy}
+use Rattle.steps.proofs.RightRows.{parametersOf, accepted-right}
+use Rattle.steps.proofs.Shaped.{Shaped, formed-shaped, width-written, few-written, shaped-written, limits-within}
+use Rattle.steps.proofs.Offsets.{split, part-of, splice-keeps}
+
+-- ---- the lowest offset
+module _ (look : Row → Walked) (t : Row) where
+  abbrev pub NoneFrom : ℕ → ℕ → Type 0
+  NoneFrom from last = (k : ℕ) → from ≤ k → k < last → look (partAt t k) ≡ NoneFits
+
+  -- the first offset at which the walk does not end in "none"
+  pub record FirstAt (from last at : ℕ) (w : Walked) : Type 0 where
+    pub later : from ≤ at
+    pub inside : at < last
+    pub here : look (partAt t at) ≡ w
+    pub earlier : NoneFrom from at
+
+  abbrev pub SeekIs : ℕ → ℕ → Sought → Type 0
+  SeekIs from last Nowhere = NoneFrom from last
+  SeekIs from last (FoundAt at f) = (n : ℕ) × FirstAt from last at (RuleFits f n)
+  SeekIs from last (Broken address) = (at : ℕ) × FirstAt from last at (DamagedAt address)
+
+  none-more : (from last : ℕ) → look (partAt t from) ≡ NoneFits → NoneFrom (suc from) last → NoneFrom from last
+  none-more from last e more k a b = go (eqb k from) refl
+    where
+      go : (c : Bool) → eqb k from ≡ c → look (partAt t k) ≡ NoneFits
+      go true q = rw (eqb-true k from q) e
+      go false q = let d : k ≡ from → ⊥ = eqb-false k from q in more k (omega arith) b
+
+  first-more : (from last at : ℕ) (w : Walked) → look (partAt t from) ≡ NoneFits → FirstAt (suc from) last at w → FirstAt from last at w
+  first-more from last at w e p = record { later = omega (arith, p .later); inside = p .inside; here = p .here; earlier = none-more from at e (p .earlier) }
+
+  seek-one : (from last : ℕ) → from < last → (w : Walked) → look (partAt t from) ≡ w → (s : Sought) → SeekIs (suc from) last s → SeekIs from last (orLater from w s)
+  seek-one from last l NoneFits e Nowhere p = none-more from last e p
+  seek-one from last l NoneFits e (FoundAt at f) p = (p .0, first-more from last at (RuleFits f (p .0)) e (p .1))
+  seek-one from last l NoneFits e (Broken address) p = (p .0, first-more from last (p .0) (DamagedAt address) e (p .1))
+  seek-one from last l (RuleFits f n) e s p = (n, record { later = omega arith; inside = l; here = e; earlier = λ k a b. absurd (omega arith) })
+  seek-one from last l (DamagedAt address) e s p = (from, record { later = omega arith; inside = l; here = e; earlier = λ k a b. absurd (omega arith) })
+
+  pub seek-is : (more from : ℕ) → SeekIs from (from + more) (seekRule look t from more)
+  unfolding seekRule
+  seek-is zero from = λ k a b. absurd (omega arith)
+  seek-is (suc more) from =
+      let e : suc from + more ≡ from + suc more = omega arith in
+      seek-one from (from + suc more) (omega arith) (look (partAt t from)) refl (seekRule look t (suc from) more) (rw e at (seek-is more (suc from)))
+
+pub lowest-offset-is : (book table : List ℕ) (t : Row) → SeekIs (walk (bookFits book) table) t 0 (length (words t)) (lowestOffset book table t)
+unfolding lowestOffset
+lowest-offset-is book table t =
+    let e : 0 + length (words t) ≡ length (words t) = omega arith in
+    rw e at (seek-is (walk (bookFits book) table) t (length (words t)) 0)
+
+-- ---- a part of a term is a term
+pub part-term : (t : Row) → IsBody t → (at : ℕ) → at < length (words t) → IsBody (partAt t at)
+part-term t i at l =
+    let p = part-of t at l in
+    let s = split t at l in
+    let n : length (words t) ≡ length (s .before) + (length (words (partAt t at)) + length (s .after)) =
+    ap length (s .whole) ∙ length-append (s .before) (words (partAt t at) ++ s .after) ∙ ap (λ (n : ℕ). length (s .before) + n) (length-append (words (partAt t at)) (s .after)) in
+    record { one = p .one; formed = p .formed (i .formed); few = omega (arith, p .few, i .few); low = omega (arith, p .low, i .low); short = omega (arith, n, i .short) }
+
+module _ (book : List ℕ) (accepted : checkBook book ≡ Good) (table : List ℕ) where
+  -- ---- what a rule that is found writes is one term, but for its limits
+  pub record Wrote (u : Row) : Type 0 where
+    pub one : width u ≡ 1
+    pub few : kinds u ≤ 2
+    pub shaped : Shaped u
+
+  pub rule-writes : (f : Fitting) (rule : Rule) → ruleAt book (f .number) ≡ some rule → ((x : ℕ) → x < rule .vars → IsBody (f .bodies x)) → Wrote (rewritten book f)
+  unfolding rewritten
+  rule-writes f rule e b =
+      let r = accepted-right book accepted (f .number) rule e in
+      let k = parametersOf (rule .left) in
+      let w : (x : ℕ) → x < rule .vars → width (f .bodies x) ≡ 1 = λ x h. b x h .one in
+      rw e
+      (record {
+        one = width-written (rule .vars) (f .bodies) w k 0 (treeOf (rule .right)) (r .0) ∙ r .1;
+        few = few-written (rule .vars) (f .bodies) w k (λ x h. b x h .few) 0 (treeOf (rule .right)) (r .0);
+        shaped = shaped-written (rule .vars) (f .bodies) w k (λ x h. b x h .formed) 0 (treeOf (rule .right)) (r .0);
+      })
+
+  pub found-writes : (p : Row) → IsBody p → (f : Fitting) (n : ℕ) → walk (bookFits book) table p ≡ RuleFits f n → Wrote (rewritten book f)
+  found-writes p i f n e =
+      let s : FoundSound (bookFits book) (RuleFits f n) = rw e at (walk-sound (bookFits book) table p i) in
+      let r = fits-rule book (f .number) (s .0) (s .2) in
+      rule-writes f (r .0) (r .1) (λ x h. s .3 x (omega (arith, s .1, r .2, h)))
+
+  -- ---- a step leaves a term
+  abbrev LeavesTerm : Stepped → Type 0
+  LeavesTerm Rests = Unit {0}
+  LeavesTerm (Becomes u) = IsBody u
+  LeavesTerm (Refused a) = Unit {0}
+
+  pub spliced-term : (t : Row) → IsBody t → (at : ℕ) → at < length (words t) → (u : Row) → Wrote u → withinLimits (spliced t at u) ≡ true → IsBody (spliced t at u)
+  spliced-term t i at l u w e =
+      let k = splice-keeps t at l u in
+      let n = limits-within (spliced t at u) (k .shaped (formed-shaped t (i .formed)) (w .shaped) (w .one)) e in
+      record { one = k .wide (w .one) ∙ i .one; formed = n .0; few = omega (arith, k .few, i .few, w .few); low = n .1; short = n .2 }
+
+  step-leaves : (t : Row) → IsBody t → (s : Sought) → SeekIs (walk (bookFits book) table) t 0 (length (words t)) s → LeavesTerm (stepFound book t s)
+  unfolding wholeWithin
+  step-leaves t i Nowhere p = tt
+  step-leaves t i (FoundAt at f) p = go (withinLimits (spliced t at (rewritten book f))) refl
+    where
+      go : (b : Bool) → withinLimits (spliced t at (rewritten book f)) ≡ b → LeavesTerm (pick b (Becomes (spliced t at (rewritten book f))) (Refused Over))
+      go true e = spliced-term t i at (p .1 .inside) (rewritten book f) (found-writes (partAt t at) (part-term t i at (p .1 .inside)) f (p .0) (p .1 .here)) e
+      go false e = tt
+  step-leaves t i (Broken address) p = tt
+
+  pub step-term : (t u : Row) → IsBody t → step book table t ≡ Becomes u → IsBody u
+  unfolding step
+  step-term t u i e = rw e at (step-leaves t i (lowestOffset book table t) (lowest-offset-is book table t))
+
+-- ---- simplifying
+module _ (book table : List ℕ) where
+  -- so many steps lead from a term to another
+  unfoldable pub StepsTo : ℕ → Row → Row → Type 0
+  StepsTo zero t v = t ≡ v
+  StepsTo (suc n) t v = (u : Row) × (step book table t ≡ Becomes u) × StepsTo n u v
+
+  -- how it ends: no offset has a rule, or the budget is used and one still has
+  pub data EndsAs (budget n : ℕ) (v : Row) (a : Answer) : Type 0 where
+    rests : a ≡ Done → lowestOffset book table v ≡ Nowhere → EndsAs budget n v a
+    used : a ≡ BudgetUsed → n ≡ budget → (at : ℕ) (f : Fitting) → lowestOffset book table v ≡ FoundAt at f → EndsAs budget n v a
+
+  -- how it is refused: a walk met a damaged node before any offset with a rule, or the next step would be over the limits
+  pub data StopsAs (budget n : ℕ) (v : Row) (a : Answer) : Type 0 where
+    broken : (address : ℕ) → a ≡ Damaged address → lowestOffset book table v ≡ Broken address → StopsAs budget n v a
+    over : a ≡ Over → n < budget → (at : ℕ) (f : Fitting) → lowestOffset book table v ≡ FoundAt at f → withinLimits (spliced v at (rewritten book f)) ≡ false → StopsAs budget n v a
+
+  abbrev pub RunIs : ℕ → Row → Run → Type 0
+  RunIs budget t (Stopped n a) = (v : Row) × StepsTo n t v × (n ≤ budget) × StopsAs budget n v a
+  RunIs budget t (Ended n a v) = StepsTo n t v × (n ≤ budget) × EndsAs budget n v a
+
+  last-look : (t : Row) (s : Sought) → lowestOffset book table t ≡ s → RunIs 0 t (budgetUsed t s)
+  unfolding StepsTo
+  last-look t Nowhere e = (refl, omega arith, rests refl e)
+  last-look t (FoundAt at f) e = (refl, omega arith, used refl refl at f e)
+  last-look t (Broken address) e = (t, refl, omega arith, broken address refl e)
+
+  abbrev StepWhy : ℕ → Row → Stepped → Type 0
+  StepWhy budget t Rests = lowestOffset book table t ≡ Nowhere
+  StepWhy budget t (Becomes u) = Unit {0}
+  StepWhy budget t (Refused a) = StopsAs (suc budget) 0 t a
+
+  found-why : (budget : ℕ) (t : Row) (s : Sought) → lowestOffset book table t ≡ s → StepWhy budget t (stepFound book t s)
+  unfolding wholeWithin
+  found-why budget t Nowhere e = e
+  found-why budget t (FoundAt at f) e = go (withinLimits (spliced t at (rewritten book f))) refl
+    where
+      go : (b : Bool) → withinLimits (spliced t at (rewritten book f)) ≡ b → StepWhy budget t (pick b (Becomes (spliced t at (rewritten book f))) (Refused Over))
+      go true q = tt
+      go false q = over refl (omega arith) at f e q
+  found-why budget t (Broken address) e = broken address refl e
+
+  step-why : (budget : ℕ) (t : Row) → StepWhy budget t (step book table t)
+  unfolding step
+  step-why budget t = found-why budget t (lowestOffset book table t) refl
+
+  ends-more : (budget n : ℕ) (v : Row) (a : Answer) → EndsAs budget n v a → EndsAs (suc budget) (suc n) v a
+  ends-more budget n v a (rests e q) = rests e q
+  ends-more budget n v a (used e m at f q) = used e (ap suc m) at f q
+
+  stops-more : (budget n : ℕ) (v : Row) (a : Answer) → StopsAs budget n v a → StopsAs (suc budget) (suc n) v a
+  stops-more budget n v a (broken address e q) = broken address e q
+  stops-more budget n v a (over e m at f q w) = over e (omega (arith, m)) at f q w
+
+  one-step-more : (budget : ℕ) (t u : Row) → step book table t ≡ Becomes u → (r : Run) → RunIs budget u r → RunIs (suc budget) t (oneMore r)
+  unfolding StepsTo
+  one-step-more budget t u e (Stopped n a) r = (r .0, (u, e, r .1), omega (arith, r .2), stops-more budget n (r .0) a (r .3))
+  one-step-more budget t u e (Ended n a v) r = ((u, e, r .0), omega (arith, r .1), ends-more budget n v a (r .2))
+
+  after-step : (budget : ℕ) (more : Row → Run) → ((u : Row) → RunIs budget u (more u)) → (t : Row) (s : Stepped) → step book table t ≡ s → StepWhy budget t s → RunIs (suc budget) t (afterStep more t s)
+  unfolding StepsTo
+  after-step budget more ih t Rests e w = (refl, omega arith, rests refl w)
+  after-step budget more ih t (Becomes u) e w = one-step-more budget t u e (more u) (ih u)
+  after-step budget more ih t (Refused a) e w = (t, refl, omega arith, w)
+
+  -- the steps counted are steps, no more than the budget, and simplifying ends as it says
+  pub run-is : (budget : ℕ) (t : Row) → RunIs budget t (simplifyBy book table budget t)
+  unfolding simplifyBy
+  run-is zero t = last-look t (lowestOffset book table t) refl
+  run-is (suc budget) t = after-step budget (simplifyBy book table budget) (λ u. run-is budget u) t (step book table t) refl (step-why budget t)
+
+  -- every term on the way is a term
+  pub steps-term : checkBook book ≡ Good → (n : ℕ) (t v : Row) → IsBody t → StepsTo n t v → IsBody v
+  unfolding StepsTo
+  steps-term g zero t v i s = rw s at i
+  steps-term g (suc n) t v i s = steps-term g n (s .0) v (step-term book g table t (s .0) i (s .1)) (s .2)

@@ -1,0 +1,50 @@
+-- Document 01, "Right sides and simplifying": "A step rewrites at the lowest offset where the walk finds a rule."
+use Prim.Native.Nat.{ℕ, zero, suc}
+use mathlib.Core.List.{List}
+use lib.ListN.{length}
+use Rattle.term.specs.declared.answer.Answer.{Answer}
+use Rattle.term.specs.declared.answer.Answer.the-variants.{Damaged, Over}
+use Rattle.term.specs.Word.{pick}
+use Rattle.term.specs.Row.{Row, words}
+use Rattle.fit.specs.Lowest.{Fitting}
+use Rattle.fit.specs.Build.{withinLimits}
+use Rattle.walk.specs.Walk.{Walked, NoneFits, RuleFits, DamagedAt, walk, bookFits}
+use Rattle.steps.specs.Rewrite.{rewritten}
+use Rattle.steps.specs.Offset.{partAt, spliced}
+
+-- where the walk finds a rule: at no offset; at an offset, with its bodies; a walk before that met a damaged node
+pub data Sought : Type 0 where
+  Nowhere : Sought
+  FoundAt : ℕ → Fitting → Sought
+  Broken : ℕ → Sought
+
+abbrev pub orLater : ℕ → Walked → Sought → Sought
+orLater at NoneFits later = later
+orLater at (RuleFits f n) later = FoundAt at f
+orLater at (DamagedAt address) later = Broken address
+
+-- the lowest of so many offsets from `at` on; a damaged tree is damaged before later offsets are looked at
+unfoldable pub seekRule : (Row → Walked) → Row → ℕ → ℕ → Sought
+seekRule look t at zero = Nowhere
+seekRule look t at (suc more) = orLater at (look (partAt t at)) (seekRule look t (suc at) more)
+
+unfoldable pub lowestOffset : List ℕ → List ℕ → Row → Sought
+lowestOffset book table t = seekRule (walk (bookFits book) table) t 0 (length (words t))
+
+-- what a step makes of a term: it rests, since no offset has a rule; the whole term after the step; a refusal
+pub data Stepped : Type 0 where
+  Rests : Stepped
+  Becomes : Row → Stepped
+  Refused : Answer → Stepped
+
+-- the limits are those of the whole term
+unfoldable pub wholeWithin : Row → Stepped
+wholeWithin t = pick (withinLimits t) (Becomes t) (Refused Over)
+
+abbrev pub stepFound : List ℕ → Row → Sought → Stepped
+stepFound book t Nowhere = Rests
+stepFound book t (FoundAt at f) = wholeWithin (spliced t at (rewritten book f))
+stepFound book t (Broken address) = Refused (Damaged address)
+
+unfoldable pub step : List ℕ → List ℕ → Row → Stepped
+step book table t = stepFound book t (lowestOffset book table t)

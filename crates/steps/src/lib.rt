@@ -1,0 +1,1 @@
+// Writing a right side, rewriting at the root, a step and simplifying: document 01's "Right sides and simplifying". Its definitions and theorems are in specs/ and proofs/; the operations are not here yet.

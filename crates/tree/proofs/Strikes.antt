@@ -1,0 +1,156 @@
+-- Striking rows by their heads in the tables leaves the rows of a case, or of the default.
+use mathlib.Core.Path.{_≡_, refl, sym, ap, ap₂, _∙_}
+use mathlib.Core.Bool.{Bool, true, false, _&&_, not}
+use mathlib.Core.List.{List, [], _∷_}
+use mathlib.Core.Option.{Option, none, some}
+use Prim.Native.Nat.{ℕ, zero, suc, _+_, _*_, _-_, _≤_, _<_}
+use native.Mathlib.Omega.{arith}
+use lib.Dec.{eqb, ltb}
+use lib.ListN.{length, getD}
+use borrow.Author.Tests.{eqb-true, eqb-false, eq-eqb, ne-eqb, lt-ltb, le-ltb}
+use Rattle.term.specs.Word.{Head, pattern, word, pick}
+use Rattle.term.specs.Part.{sameWords}
+use Rattle.term.proofs.Laws.{never, same-words, words-same}
+use Rattle.book.specs.Book.{Rule, ruleAt}
+use Rattle.fit.specs.Left.{Left, end, hole, part}
+use Rattle.fit.specs.Constraint.{Place}
+use Rattle.fit.specs.Match.{leftIn}
+use Rattle.tree.specs.Path.{Uncovered, OnPath, placeNumbered}
+use Rattle.tree.specs.Rows.{RuleRow, sub, below, subsUnder, subAt, headHere, headAt}
+use Rattle.tree.specs.Compile.{inCase, caseRows, inDefault, defaultRows}
+use Rattle.tree.specs.Tables.{Changed, isFree, struckRows, hasOther, isOther, headWord}
+use Rattle.tree.specs.Stands.{rowsLeft, nextOr, numberedAs, LowWords, RowStands, Stands}
+use Rattle.tree.proofs.Subs.{head-sub}
+use Rattle.tree.proofs.RowsLeft.{rowOfRule, keptRows, case-kept, default-kept, rows-kept}
+use Rattle.tree.proofs.SpotHeads.{headOr, SubLow, head-is-word}
+
+-- ---- numbers and places
+number-leads : (us : List Uncovered) (p : Place) (m : ℕ) → numberedAs p us ≡ suc m → (m < length us) × (placeNumbered m us ≡ p)
+unfolding numberedAs placeNumbered
+number-leads [] p m e = never (cc)
+number-leads (u ∷ us) p m e = go (sameWords (u .place) p) refl (numberedAs p us) refl m e (λ x z. number-leads us p x z)
+  where
+    go : (b : Bool) → sameWords (u .place) p ≡ b → (x : ℕ) → numberedAs p us ≡ x → (m : ℕ) → pick b 1 (nextOr x) ≡ suc m → ((x : ℕ) → numberedAs p us ≡ suc x → (x < length us) × (placeNumbered x us ≡ p)) → (m < length (u ∷ us)) × (placeNumbered m (u ∷ us) ≡ p)
+    go true q x z zero f i = (omega arith, same-words (u .place) p q)
+    go true q x z (suc m) f i = absurd (omega (arith, f))
+    go false q zero z m f i = absurd (omega (arith, f))
+    go false q (suc x) z zero f i = absurd (omega (arith, f))
+    go false q (suc x) z (suc m) f i =
+        let w : x ≡ m = omega (arith, f) in
+        let r = i x z in
+        (omega (arith, r .0, w), rw w at (r .1))
+
+number-there : (us : List Uncovered) (n : ℕ) → n < length us → (m : ℕ) × (numberedAs (placeNumbered n us) us ≡ suc m)
+unfolding numberedAs placeNumbered
+number-there [] n h = absurd (omega arith)
+number-there (u ∷ us) zero h = (0, rw (words-same (u .place)))
+number-there (u ∷ us) (suc n) h = go (sameWords (u .place) (placeNumbered n us)) (number-there us n (omega arith))
+  where
+    go : (b : Bool) → (m : ℕ) × (numberedAs (placeNumbered n us) us ≡ suc m) → (m : ℕ) × (pick b 1 (nextOr (numberedAs (placeNumbered n us) us)) ≡ suc m)
+    go true r = (0, refl)
+    go false r = (suc (r .0), rw (r .1))
+
+module _ (book fixed nums marks : List ℕ) (count : ℕ) (path : OnPath) (s : Stands book fixed nums marks count path) where
+  -- a number's place has that number, and no other place has
+  pub number-own : (n : ℕ) → n < count → numberedAs (placeNumbered n (path .uncovered)) (path .uncovered) ≡ suc n
+  number-own n h =
+      let r = number-there (path .uncovered) n (omega (arith, s .counted)) in
+      let l = number-leads (path .uncovered) (placeNumbered n (path .uncovered)) (r .0) (r .1) in
+      r .1 ∙ ap suc (s .once (r .0) n (omega (arith, l .0, s .counted)) h (l .1))
+
+  pub number-only : (n : ℕ) (p : Place) → numberedAs p (path .uncovered) ≡ suc n → p ≡ placeNumbered n (path .uncovered)
+  number-only n p e = sym (number-leads (path .uncovered) p n e .1)
+
+-- ---- words of sub-patterns
+low-sub : (k : Left) (i : ℕ) → LowWords k → LowWords (sub k i)
+unfolding sub LowWords
+low-sub end i f = tt
+low-sub (hole x ys rest) zero f = (f .0, tt)
+low-sub (hole x ys rest) (suc i) f = low-sub rest i (f .1)
+low-sub (part h kids rest) zero f = (f .0, f .1, tt)
+low-sub (part h kids rest) (suc i) f = low-sub rest i (f .2)
+
+low-below : (k : Left) → LowWords k → LowWords (below k)
+unfolding below LowWords
+low-below end f = tt
+low-below (hole x ys rest) f = tt
+low-below (part h kids rest) f = f .1
+
+low-under : (left : Left) (p : Place) → LowWords left → LowWords (subsUnder left p)
+unfolding subsUnder
+low-under left [] f = f
+low-under left (i ∷ p) f = low-below (sub (subsUnder left p) i) (low-sub (subsUnder left p) i (low-under left p f))
+
+low-end : LowWords end
+unfolding LowWords
+low-end = tt
+
+pub low-at : (left : Left) (p : Place) → LowWords left → LowWords (subAt left p)
+unfolding subAt
+low-at left [] f = low-end
+low-at left (i ∷ p) f = low-sub (subsUnder left p) i (low-under left p f)
+
+low-head : (h : Head) (kids rest : Left) → LowWords (part h kids rest) → word h < 33554432
+unfolding LowWords
+low-head h kids rest l = l .0
+
+low-hole : (x : ℕ) (ys : List ℕ) (rest : Left) → LowWords (hole x ys rest) → 33554432 ≤ word (pattern x (length ys))
+unfolding LowWords
+low-hole x ys rest l = l .0
+
+pub low-low : (y : Left) → LowWords y → SubLow y
+low-low y f = record { heads = λ h kids rest e. low-head h kids rest (rw e at f); holes = λ x ys rest e. low-hole x ys rest (rw e at f) }
+
+-- ---- the tests
+other-case : (h : Head) → (o : Option Head) → ((g : Head) → o ≡ some g → word g < 33554432) → isOther (word h) (headOr o) ≡ not (inCase o h)
+other-case h none l = refl
+other-case h (some g) l = rw (ne-eqb (word g) 33554432 (λ e. omega (arith, e, l g refl))) (go (eqb (word g) (word h)))
+  where
+    go : (b : Bool) → pick b false true ≡ not b
+    go true = refl
+    go false = refl
+
+other-default : (o : Option Head) → ((g : Head) → o ≡ some g → word g < 33554432) → isOther 33554432 (headOr o) ≡ not (inDefault o)
+other-default none l = refl
+other-default (some g) l = rw (ne-eqb (word g) 33554432 (λ e. omega (arith, e, l g refl)))
+
+not-not : (a b : Bool) → a ≡ not b → b ≡ not a
+not-not a true e = rw e
+not-not a false e = rw e
+
+pub head-low : (y : Left) → SubLow y → (g : Head) → headHere y ≡ some g → word g < 33554432
+head-low end l g e = never (cc)
+head-low (hole x ys rest) l g e = never (cc)
+head-low (part h kids rest) l g e = let z : h ≡ g = cc in rw (← z) (l .heads h kids rest refl)
+
+-- ---- THE LAWS of striking by heads
+module _ (book fixed nums marks : List ℕ) (count : ℕ) (path : OnPath) (s : Stands book fixed nums marks count path) (n : ℕ) (known : n < count) where
+  -- the head of a row that is not struck, at a place
+  pub row-head : (r : ℕ) (rule : Rule) → r < 64 → isFree marks r ≡ true → ruleAt book r ≡ some rule → headWord fixed nums r n ≡ headOr (headAt (leftIn rule) (placeNumbered n (path .uncovered)))
+  row-head r rule h f e =
+      let t = s .rows r rule h f e in
+      head-is-word fixed nums (path .uncovered) r n (leftIn rule) (placeNumbered n (path .uncovered)) (number-only book fixed nums marks count path s n) (number-own book fixed nums marks count path s n known)
+      (t .here) (t .short) (t .blank) h (low-low (subAt (leftIn rule) (placeNumbered n (path .uncovered))) (low-at (leftIn rule) (placeNumbered n (path .uncovered)) (t .low)))
+
+  head-words : (r : ℕ) (rule : Rule) → r < 64 → isFree marks r ≡ true → ruleAt book r ≡ some rule → (g : Head) → headAt (leftIn rule) (placeNumbered n (path .uncovered)) ≡ some g → word g < 33554432
+  head-words r rule h f e g q =
+      head-low (subAt (leftIn rule) (placeNumbered n (path .uncovered)))
+      (low-low (subAt (leftIn rule) (placeNumbered n (path .uncovered))) (low-at (leftIn rule) (placeNumbered n (path .uncovered)) (s .rows r rule h f e .low))) g (sym (head-sub (leftIn rule) (placeNumbered n (path .uncovered))) ∙ q)
+
+  pub case-left : (h : Head) (m : ℕ) (after : List ℕ) → (m ≡ 0 → ⊥) → Changed (struckRows (hasOther fixed nums n (word h)) m) marks after
+      → rowsLeft book after 0 64 ≡ caseRows (placeNumbered n (path .uncovered)) h (rowsLeft book marks 0 64)
+  case-left h m after z c =
+      rows-kept book (hasOther fixed nums n (word h)) (λ row. inCase (headAt (row .left) (placeNumbered n (path .uncovered))) h) m marks after c z
+      (λ r rule l f e. not-not (hasOther fixed nums n (word h) r) (inCase (headAt (leftIn rule) (placeNumbered n (path .uncovered))) h)
+      (ap (isOther (word h)) (row-head r rule l f e) ∙ other-case h (headAt (leftIn rule) (placeNumbered n (path .uncovered))) (head-words r rule l f e)))
+      64 0 (omega arith)
+      ∙ case-kept (placeNumbered n (path .uncovered)) h (rowsLeft book marks 0 64)
+
+  pub default-left : (m : ℕ) (after : List ℕ) → (m ≡ 0 → ⊥) → Changed (struckRows (hasOther fixed nums n 33554432) m) marks after
+      → rowsLeft book after 0 64 ≡ defaultRows (placeNumbered n (path .uncovered)) (rowsLeft book marks 0 64)
+  default-left m after z c =
+      rows-kept book (hasOther fixed nums n 33554432) (λ row. inDefault (headAt (row .left) (placeNumbered n (path .uncovered)))) m marks after c z
+      (λ r rule l f e. not-not (hasOther fixed nums n 33554432 r) (inDefault (headAt (leftIn rule) (placeNumbered n (path .uncovered))))
+      (ap (isOther 33554432) (row-head r rule l f e) ∙ other-default (headAt (leftIn rule) (placeNumbered n (path .uncovered))) (head-words r rule l f e)))
+      64 0 (omega arith)
+      ∙ default-kept (placeNumbered n (path .uncovered)) (rowsLeft book marks 0 64)

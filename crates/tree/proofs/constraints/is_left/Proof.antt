@@ -1,0 +1,20 @@
+-- `constraints::is_left` meets its contract: its tests are the definition's.
+use borrow.Author.Needs.{needs}
+use native.Mathlib.Omega.{arith}
+use mathlib.Core.Path.{_≡_, refl, sym, ap, _∙_}
+use Rattle.tree.proofs.TableLaws.{left-struck, left-free}
+use Rattle.tree.proofs.constraints.is_left.Statement.{statement}
+use Rattle.tree.proofs.constraints.is_left.Tie as tie
+
+returns : tie.Need-returns
+returns c = left-struck (c .before .before .before .before .args .fixed .now) (c .before .before .before .before .args .marks .now) (c .before .before .before .before .args .id) (c .if1 .taken)
+
+is-constraint-requires : tie.Need-is-constraint-requires
+is-constraint-requires c κs = (c .before .before .before .before .pre .0, c .before .before .before .before .pre .2, c .before .before .before .before .pre .3)
+
+returns-2 : tie.Need-returns-2
+returns-2 c = left-free (c .before .before .before .before .before .args .fixed .now) (c .before .before .before .before .before .args .marks .now) (c .before .before .before .before .before .args .id) _ (c .before .if1 .left) (c .is-constraint .ensures)
+
+pub is-left-spec : {M : Type 1} → statement M
+is-left-spec =
+    tie.close (tie.spec (λ c. search needs) (λ c. search needs) returns is-constraint-requires returns-2)

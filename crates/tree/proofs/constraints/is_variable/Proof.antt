@@ -1,0 +1,18 @@
+-- `constraints::is_variable` meets its contract: its tests are the definition's.
+use borrow.Author.Needs.{needs}
+use native.Mathlib.Omega.{arith}
+use mathlib.Core.Path.{_≡_, refl, sym, ap, _∙_}
+use Rattle.tree.proofs.TableLaws.{variable-no, variable-is}
+use Rattle.tree.proofs.constraints.is_variable.Statement.{statement}
+use Rattle.tree.proofs.constraints.is_variable.Tie as tie
+
+returns : tie.Need-returns
+returns c = variable-no (c .before .before .args .fixed .now) (c .before .before .args .x) (c .before .before .args .k) (c .if1 .taken)
+
+returns-2 : tie.Need-returns-2
+returns-2 c = variable-is (c .before .before .before .args .fixed .now) (c .before .before .before .args .x) (c .before .before .before .args .k) (c .before .if1 .left)
+
+pub is-variable-spec : {M : Type 1} → statement M
+is-variable-spec =
+    tie.close
+    (tie.spec (λ c. search needs) (λ c. search needs) returns (λ c. search needs) (λ c. search needs) returns-2)

@@ -1,0 +1,30 @@
+-- `numbers::next_child` meets its contract: its test is the definition's.
+use borrow.Author.Needs.{needs}
+use native.Mathlib.Omega.{arith}
+use mathlib.Core.Path.{_≡_, refl, sym, ap, _∙_}
+use Rattle.tree.proofs.NumberLaws.{next-over, next-in}
+use Rattle.tree.proofs.numbers.next_child.Statement.{statement}
+use Rattle.tree.proofs.numbers.next_child.Tie as tie
+
+returns : tie.Need-returns
+returns c = next-over (c .before .before .before .before .args .fixed .now) (c .before .before .before .before .args .child) (c .before .before .before .before .args .to) _ (c .before .part-end .ensures) (c .if1 .taken)
+
+add-result : tie.Need-add-result
+add-result c = omega (arith, c .before .before .before .before .pre .1, c .before .before .before .before .pre .2, c .if1 .left)
+
+returns-2 : tie.Need-returns-2
+returns-2 c = next-in (c .before .before .before .before .args .fixed .now) (c .before .before .before .before .args .child) (c .before .before .before .before .args .to) _ (c .before .part-end .ensures) (c .if1 .left)
+
+pub next-child-spec : {M : Type 1} → statement M
+next-child-spec =
+    tie.close
+    (tie.spec
+    (λ c. search needs)
+    (λ c. search needs)
+    (λ c. search needs)
+    (λ c. search needs)
+    (λ c κs. search needs)
+    (λ c. search needs)
+    returns
+    add-result
+    returns-2)

@@ -1,0 +1,254 @@
+-- What Switch, Closed and Same say of a state: one law for each way through the code.
+use mathlib.Core.Path.{_≡_, refl, ap, _∙_}
+use mathlib.Core.Bool.{Bool, true, false, _&&_, not}
+use mathlib.Core.List.{List, [], _∷_}
+use mathlib.Core.Option.{Option, none, some}
+use Prim.Native.Nat.{ℕ, zero, suc, _+_, _*_, _-_, _≤_, _<_}
+use native.Mathlib.Omega.{arith}
+use lib.Dec.{leb, ltb}
+use lib.ListN.{length, getD, take, drop, length-drop}
+use lib.Seq.{drop-cons, getD-drop}
+use borrow.Author.Tests.{lt-ltb, le-ltb}
+use Rattle.term.specs.Word.{pick}
+use Rattle.term.specs.Row.{node}
+use Rattle.term.specs.Renumber.{goodList}
+use Rattle.term.specs.Part.{isSome, hasBody, sameO, sameBody}
+use Rattle.tree.specs.Find.{PartAt, partOf, enterPart, bodyFor}
+use Rattle.walk.specs.Walk.{DamagedAt, Next, Ends, Goes, unless, goTo, isWord, caseOf, caseNext, switchNode, closedNode, sameNode}
+use Rattle.walk.specs.declared.state.Walk.{Walk}
+use Rattle.walk.specs.declared.taken.Taken.{Taken}
+use Rattle.walk.specs.declared.taken.Taken.the-variants.{To, Not}
+use Rattle.walk.specs.Taken.{addressOf, CaseTold, closedTaken, sameTaken}
+use Rattle.walk.specs.State.{stoppedAs, placesOf, Parted, Holds, Said, Told, GoTold, EnterTold, CaseTaken, SwitchTold, ClosedTold, SameTold}
+use Rattle.walk.proofs.Tells.{told-same, told-damaged}
+use Rattle.walk.proofs.Uncovered.{held-length, place-depth, place-entered, place-body, has-body, same-body-is}
+use Rattle.walk.proofs.Entering.{opened}
+
+-- ---- the words of a node
+pub two-words : (table : List ℕ) (at : ℕ) → at + 3 ≤ length table → drop (at + 1) table ≡ getD table (at + 1) 0 ∷ getD table (at + 2) 0 ∷ drop (at + 3) table
+two-words table at h =
+    let z : suc (at + 1) ≡ at + 2 = omega arith in
+    let y : suc (at + 2) ≡ at + 3 = omega arith in
+    drop-cons table (at + 1) 0 (omega arith) ∙ ap (getD table (at + 1) 0 ∷_) (rw z (drop-cons table (at + 2) 0 (omega arith) ∙ rw y))
+
+three-words : (table : List ℕ) (at : ℕ) → at + 4 ≤ length table → drop (at + 1) table ≡ getD table (at + 1) 0 ∷ getD table (at + 2) 0 ∷ getD table (at + 3) 0 ∷ drop (at + 4) table
+three-words table at h =
+    let y : suc (at + 3) ≡ at + 4 = omega arith in
+    two-words table at (omega arith) ∙ ap (λ (l : List ℕ). getD table (at + 1) 0 ∷ getD table (at + 2) 0 ∷ l) (drop-cons table (at + 3) 0 (omega arith) ∙ rw y)
+
+-- ---- an address that is taken, or none
+abbrev takenNext : List ℕ → ℕ → List PartAt → Taken → Next
+takenNext table at ps (To to) = goTo table at to ps
+takenNext table at ps Not = Ends (DamagedAt at)
+
+module _ (table : List ℕ) (at : ℕ) (ps : List PartAt) where
+  closed-short : (ws : List ℕ) → length ws < 2 → closedNode table at ps ws ≡ Ends (DamagedAt at)
+  unfolding closedNode
+  closed-short [] h = refl
+  closed-short (n ∷ []) h = refl
+  closed-short (n ∷ k ∷ ws) h = absurd (omega arith)
+
+  closed-nowhere : (n k : ℕ) (ws : List ℕ) → length ps ≤ n → closedNode table at ps (n ∷ k ∷ ws) ≡ Ends (DamagedAt at)
+  unfolding closedNode
+  closed-nowhere n k ws h = rw (le-ltb n (length ps) h)
+
+  closed-is : (n k : ℕ) (ws : List ℕ) (d : ℕ) (part : List ℕ) → n < length ps → partOf n ps .depth ≡ d
+      → ((ys : List ℕ) → goodList d ys ≡ true → isSome (bodyFor ps n ys) ≡ hasBody d ys part) → closedNode table at ps (n ∷ k ∷ ws) ≡ takenNext table at ps (closedTaken d part k ws)
+  unfolding closedNode closedTaken
+  closed-is n k ws d part l e b = rw (lt-ltb n (length ps) l, e) (go (leb k 4) (ltb (k + 1) (length ws)) (goodList d (take k ws)) refl)
+    where
+      go : (x y z : Bool) → goodList d (take k ws) ≡ z
+          → unless x at (unless y at (unless z at (goTo table at (pick (isSome (bodyFor ps n (take k ws))) (getD ws k 0) (getD ws (k + 1) 0)) ps)))
+          ≡ takenNext table at ps (pick x (pick y (pick z (To (pick (hasBody d (take k ws) part) (getD ws k 0) (getD ws (k + 1) 0))) Not) Not) Not)
+      go false y z q = refl
+      go true false z q = refl
+      go true true false q = refl
+      go true true true q = rw (b (take k ws) q)
+
+  same-short : (ws : List ℕ) → length ws < 3 → sameNode table at ps ws ≡ Ends (DamagedAt at)
+  unfolding sameNode
+  same-short [] h = refl
+  same-short (n ∷ []) h = refl
+  same-short (n ∷ m ∷ []) h = refl
+  same-short (n ∷ m ∷ k ∷ ws) h = absurd (omega arith)
+
+  same-nowhere : (n m k : ℕ) (ws : List ℕ) → length ps ≤ n → sameNode table at ps (n ∷ m ∷ k ∷ ws) ≡ Ends (DamagedAt at)
+  unfolding sameNode
+  same-nowhere n m k ws h = rw (le-ltb n (length ps) h)
+
+  same-next-nowhere : (n m k : ℕ) (ws : List ℕ) → n < length ps → length ps ≤ m → sameNode table at ps (n ∷ m ∷ k ∷ ws) ≡ Ends (DamagedAt at)
+  unfolding sameNode
+  same-next-nowhere n m k ws l h = rw (lt-ltb n (length ps) l, le-ltb m (length ps) h)
+
+  same-is : (n m k : ℕ) (ws : List ℕ) (d : ℕ) (part : List ℕ) (c : ℕ) (other : List ℕ) → n < length ps → m < length ps → partOf n ps .depth ≡ d → partOf m ps .depth ≡ c
+      → ((ys zs : List ℕ) → goodList d ys ≡ true → goodList c zs ≡ true → sameO (bodyFor ps n ys) (bodyFor ps m zs) ≡ sameBody d ys part c zs other)
+      → sameNode table at ps (n ∷ m ∷ k ∷ ws) ≡ takenNext table at ps (sameTaken d part c other k ws)
+  unfolding sameNode sameTaken
+  same-is n m k ws d part c other l i e f b =
+      rw (lt-ltb n (length ps) l, lt-ltb m (length ps) i, e, f) (go (leb k 4) (ltb (k + k + 1) (length ws)) (goodList d (take k ws)) (goodList c (take k (drop k ws))) refl refl)
+    where
+      go : (x y z w : Bool) → goodList d (take k ws) ≡ z → goodList c (take k (drop k ws)) ≡ w
+          → unless x at (unless y at (unless z at (unless w at
+          (goTo table at (pick (sameO (bodyFor ps n (take k ws)) (bodyFor ps m (take k (drop k ws)))) (getD ws (k + k) 0) (getD ws (k + k + 1) 0)) ps))))
+          ≡ takenNext table at ps (pick x (pick y (pick z (pick w (To (pick (sameBody d (take k ws) part c (take k (drop k ws)) other) (getD ws (k + k) 0) (getD ws (k + k + 1) 0))) Not) Not) Not) Not)
+      go false y z w q u = refl
+      go true false z w q u = refl
+      go true true false w q u = refl
+      go true true true false q u = refl
+      go true true true true q u = rw (b (take k ws) (take k (drop k ws)) q u)
+
+  switch-short : (ws : List ℕ) → length ws < 2 → switchNode table at ps ws ≡ Ends (DamagedAt at)
+  unfolding switchNode
+  switch-short [] h = refl
+  switch-short (n ∷ []) h = refl
+  switch-short (n ∷ k ∷ ws) h = absurd (omega arith)
+
+  switch-nowhere : (n k : ℕ) (ws : List ℕ) → length ps ≤ n → switchNode table at ps (n ∷ k ∷ ws) ≡ Ends (DamagedAt at)
+  unfolding switchNode
+  switch-nowhere n k ws h = rw (le-ltb n (length ps) h)
+
+  switch-over : (n k : ℕ) (ws : List ℕ) → n < length ps → length ws ≤ 2 * k → switchNode table at ps (n ∷ k ∷ ws) ≡ Ends (DamagedAt at)
+  unfolding switchNode
+  switch-over n k ws l h = rw (lt-ltb n (length ps) l, le-ltb (2 * k) (length ws) h)
+
+  switch-is : (n k : ℕ) (ws : List ℕ) (o : Option ℕ) → n < length ps → 2 * k < length ws → o ≡ caseOf (partOf n ps .part) k ws
+      → switchNode table at ps (n ∷ k ∷ ws) ≡ caseNext table at n ps (getD ws (2 * k) 0) o
+  unfolding switchNode
+  switch-is n k ws o l h e = rw (lt-ltb n (length ps) l, lt-ltb (2 * k) (length ws) h, e)
+
+-- ---- a state
+module _ (table term : List ℕ) (s : Walk) (p : Parted term) (h : Holds term s) where
+  abbrev held : List PartAt
+  held = placesOf term s
+
+  abbrev place : ℕ
+  place = getD table (s .at + 1) 0
+
+  damaged : (next : Next) (r : Walk) → r ≡ stoppedAs s 3 → next ≡ Ends (DamagedAt (s .at)) → Told table term (λ fits. next) r
+  damaged next r e d = rw e (told-damaged table term (λ fits. next) s h (λ fits. d))
+
+  -- Closed
+  module _ (inside : s .at < length table) where
+    pub closed-cut : length table - s .at < 3 → (r : Walk) → r ≡ stoppedAs s 3 → ClosedTold table term s r
+    closed-cut l r e = damaged _ r e (closed-short table (s .at) held (drop (s .at + 1) table) (rw (length-drop (s .at + 1) table) (omega arith)))
+
+    pub same-cut : length table - s .at < 4 → (r : Walk) → r ≡ stoppedAs s 3 → SameTold table term s r
+    same-cut l r e = damaged _ r e (same-short table (s .at) held (drop (s .at + 1) table) (rw (length-drop (s .at + 1) table) (omega arith)))
+
+    pub switch-cut : length table - s .at < 3 → (r : Walk) → r ≡ stoppedAs s 3 → SwitchTold table term s r
+    switch-cut l r e = damaged _ r e (switch-short table (s .at) held (drop (s .at + 1) table) (rw (length-drop (s .at + 1) table) (omega arith)))
+
+  module _ (long : s .at + 3 ≤ length table) where
+    pub closed-uncovered : s .count ≤ place → (r : Walk) → r ≡ stoppedAs s 3 → ClosedTold table term s r
+    closed-uncovered l r e =
+        damaged _ r e (rw (two-words table (s .at) long) (closed-nowhere table (s .at) held place (getD table (s .at + 2) 0) (drop (s .at + 3) table) (omega (arith, held-length term s p h))))
+
+    pub switch-uncovered : s .count ≤ place → (r : Walk) → r ≡ stoppedAs s 3 → SwitchTold table term s r
+    switch-uncovered l r e =
+        damaged _ r e (rw (two-words table (s .at) long) (switch-nowhere table (s .at) held place (getD table (s .at + 2) 0) (drop (s .at + 3) table) (omega (arith, held-length term s p h))))
+
+    module _ (i : place < s .count) where
+      here : place < length held
+      here = omega (arith, held-length term s p h)
+
+      closed-next : (t : Taken) → t ≡ closedTaken (getD (s .depths) place 0) (drop (getD (s .offsets) place 0) term) (getD table (s .at + 2) 0) (drop (s .at + 3) table)
+          → closedNode table (s .at) held (drop (s .at + 1) table) ≡ takenNext table (s .at) held t
+      closed-next t e =
+          rw (two-words table (s .at) long, e)
+          (closed-is table (s .at) held place (getD table (s .at + 2) 0) (drop (s .at + 3) table) (getD (s .depths) place 0) (drop (getD (s .offsets) place 0) term) here (place-depth term s p h place i)
+          (λ ys g. ap isSome (place-body term s p h place i ys g) ∙ has-body (getD (s .depths) place 0) ys (drop (getD (s .offsets) place 0) term)))
+
+      pub closed-goes : (to : ℕ) → To to ≡ closedTaken (getD (s .depths) place 0) (drop (getD (s .offsets) place 0) term) (getD table (s .at + 2) 0) (drop (s .at + 3) table)
+          → (r : Walk) → GoTold table s to r → ClosedTold table term s r
+      closed-goes to e r g = told-same table term _ (λ fits. goTo table (s .at) to held) r (λ fits. closed-next (To to) e) (g term h)
+
+      pub closed-damaged : Not ≡ closedTaken (getD (s .depths) place 0) (drop (getD (s .offsets) place 0) term) (getD table (s .at + 2) 0) (drop (s .at + 3) table)
+          → (r : Walk) → r ≡ stoppedAs s 3 → ClosedTold table term s r
+      closed-damaged e r q = damaged _ r q (closed-next Not e)
+
+      -- Switch
+      pub switch-past : length table - (s .at + 3) ≤ 2 * getD table (s .at + 2) 0 → (r : Walk) → r ≡ stoppedAs s 3 → SwitchTold table term s r
+      switch-past l r e =
+          damaged _ r e
+          (rw (two-words table (s .at) long)
+          (switch-over table (s .at) held place (getD table (s .at + 2) 0) (drop (s .at + 3) table) here (rw (length-drop (s .at + 3) table) l)))
+
+      module _ (fits : 2 * getD table (s .at + 2) 0 < length table - (s .at + 3)) (t : Taken)
+          (c : CaseTold (getD term (getD (s .offsets) place 0) 0) (getD table (s .at + 2) 0) (drop (s .at + 3) table) t) where
+        switch-next : switchNode table (s .at) held (drop (s .at + 1) table) ≡ caseNext table (s .at) place held (getD (drop (s .at + 3) table) (2 * getD table (s .at + 2) 0) 0) (addressOf t)
+        unfolding isWord
+        switch-next =
+            let q = opened term s p h place i in
+            rw (two-words table (s .at) long)
+            (switch-is table (s .at) held place (getD table (s .at + 2) 0) (drop (s .at + 3) table) (addressOf t) here (rw (length-drop (s .at + 3) table) fits)
+            (c (partOf place held .part) (λ v. rw (q .is, q .first))))
+
+      pub switch-goes : 2 * getD table (s .at + 2) 0 < length table - (s .at + 3)
+          → CaseTold (getD term (getD (s .offsets) place 0) 0) (getD table (s .at + 2) 0) (drop (s .at + 3) table) Not
+          → (r : Walk) → GoTold table s (getD table (s .at + 3 + 2 * getD table (s .at + 2) 0) 0) r → SwitchTold table term s r
+      switch-goes f c r g =
+          told-same table term _ (λ fits. goTo table (s .at) (getD table (s .at + 3 + 2 * getD table (s .at + 2) 0) 0) held) r
+          (λ fits. switch-next f Not c ∙ rw (getD-drop (s .at + 3) table (2 * getD table (s .at + 2) 0) 0)) (g term h)
+
+      pub switch-takes : 2 * getD table (s .at + 2) 0 < length table - (s .at + 3) → (to : ℕ)
+          → CaseTold (getD term (getD (s .offsets) place 0) 0) (getD table (s .at + 2) 0) (drop (s .at + 3) table) (To to)
+          → (r : Walk) → CaseTaken table term s place to r → SwitchTold table term s r
+      switch-takes f to c r g = told-same table term _ (λ fits. caseNext table (s .at) place held 0 (some to)) r (λ fits. switch-next f (To to) c) g
+
+  -- Same
+  module _ (long : s .at + 4 ≤ length table) where
+    abbrev other : ℕ
+    other = getD table (s .at + 2) 0
+
+    pub same-uncovered : s .count ≤ place → (r : Walk) → r ≡ stoppedAs s 3 → SameTold table term s r
+    same-uncovered l r e =
+        damaged _ r e (rw (three-words table (s .at) long) (same-nowhere table (s .at) held place other (getD table (s .at + 3) 0) (drop (s .at + 4) table) (omega (arith, held-length term s p h))))
+
+    module _ (i : place < s .count) where
+      pub same-next-uncovered : s .count ≤ other → (r : Walk) → r ≡ stoppedAs s 3 → SameTold table term s r
+      same-next-uncovered l r e =
+          damaged _ r e
+          (rw (three-words table (s .at) long)
+          (same-next-nowhere table (s .at) held place other (getD table (s .at + 3) 0) (drop (s .at + 4) table) (omega (arith, held-length term s p h)) (omega (arith, held-length term s p h))))
+
+      module _ (j : other < s .count) where
+        abbrev says : Taken
+        says =
+            sameTaken (getD (s .depths) place 0) (drop (getD (s .offsets) place 0) term) (getD (s .depths) other 0) (drop (getD (s .offsets) other 0) term) (getD table (s .at + 3) 0) (drop (s .at + 4) table)
+
+        same-next : (t : Taken) → t ≡ says → sameNode table (s .at) held (drop (s .at + 1) table) ≡ takenNext table (s .at) held t
+        same-next t e =
+            rw (three-words table (s .at) long, e)
+            (same-is table (s .at) held place other (getD table (s .at + 3) 0) (drop (s .at + 4) table) (getD (s .depths) place 0) (drop (getD (s .offsets) place 0) term) (getD (s .depths) other 0)
+            (drop (getD (s .offsets) other 0) term) (omega (arith, held-length term s p h)) (omega (arith, held-length term s p h)) (place-depth term s p h place i) (place-depth term s p h other j)
+            (λ ys zs g k.
+            rw (place-body term s p h place i ys g, place-body term s p h other j zs k)
+            (same-body-is (getD (s .depths) place 0) ys (drop (getD (s .offsets) place 0) term) (getD (s .depths) other 0) zs (drop (getD (s .offsets) other 0) term))))
+
+        pub same-goes : (to : ℕ) → To to ≡ says → (r : Walk) → GoTold table s to r → SameTold table term s r
+        same-goes to e r g = told-same table term _ (λ fits. goTo table (s .at) to held) r (λ fits. same-next (To to) e) (g term h)
+
+        pub same-damaged : Not ≡ says → (r : Walk) → r ≡ stoppedAs s 3 → SameTold table term s r
+        same-damaged e r q = damaged _ r q (same-next Not e)
+
+  -- a case
+  module _ (n : ℕ) (i : n < s .count) (to : ℕ) where
+    pub case-entered : getD (s .entered) n false ≡ true → (r : Walk) → r ≡ stoppedAs s 3 → CaseTaken table term s n to r
+    case-entered o r e = damaged _ r e (rw (place-entered term s p h n i, o))
+
+    module _ (o : getD (s .entered) n false ≡ false) where
+      pub case-back : to ≤ s .at → (r : Walk) → r ≡ stoppedAs s 3 → CaseTaken table term s n to r
+      unfolding goTo
+      case-back l r e = damaged _ r e (rw (place-entered term s p h n i, o, le-ltb (s .at) to l))
+
+      pub case-out : s .at < to → length table ≤ to → (r : Walk) → r ≡ stoppedAs s 3 → CaseTaken table term s n to r
+      unfolding goTo
+      case-out l u r e = damaged _ r e (rw (place-entered term s p h n i, o, lt-ltb (s .at) to l, le-ltb to (length table) u))
+
+      pub case-in : s .stands ≡ 0 → s .at < to → to < length table → (r : Walk) → EnterTold term s n to r → CaseTaken table term s n to r
+      unfolding goTo Told
+      case-in z l u r e = (e .holds, said (r .stands) (e .same ∙ z))
+        where
+          said : (k : ℕ) → k ≡ 0 → Said table term (λ fits. unless (not (partOf n held .entered)) (s .at) (unless (ltb (s .at) to && ltb to (length table)) (s .at) (Goes to (enterPart n held)))) r k
+          said zero y = λ fits. rw (place-entered term s p h n i, o, lt-ltb (s .at) to l, lt-ltb to (length table) u, e .there, e .places)
+          said (suc k) y = absurd (omega arith)

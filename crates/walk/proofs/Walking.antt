@@ -1,0 +1,146 @@
+-- The walk, node by node: the walk from here is the walk from the start, and each node is later, so it ends.
+use mathlib.Core.Path.{_≡_, refl, ap, _∙_}
+use mathlib.Core.Bool.{Bool, true, false}
+use mathlib.Core.List.{List, [], _∷_}
+use Prim.Native.Nat.{ℕ, zero, suc, _+_, _-_, _≤_, _<_}
+use native.Mathlib.Omega.{arith}
+use lib.Dec.{eqb}
+use lib.ListN.{length, getD, drop, replicate, length-replicate, getD-replicate, length-append, drop-of-length-le}
+use lib.Seq.{drop-cons}
+use borrow.Author.Tests.{eq-eqb, ne-eqb}
+use Rattle.term.specs.Word.{pick}
+use Rattle.term.specs.Row.{words}
+use Rattle.tree.specs.Tree.{countsOf}
+use Rattle.tree.specs.Find.{PartAt, rootPart}
+use Rattle.tree.proofs.Laws.{total-root}
+use Rattle.walk.specs.Walk.{Walked, DamagedAt, Ends, unless, leafNode, switchNode, closedNode, sameNode, nodeAt, nextAt, follow, walkFrom}
+use Rattle.walk.specs.declared.state.Walk.{Walk}
+use Rattle.walk.specs.State.{stoppedAs, entryAt, partFrom, placeIn, placesFrom, placesOf, Parted, Holds, leafVariables, leafRule, Said, Told, SwitchTold, ClosedTold, SameTold, LeafTold, StepTold, Stood, Standing, WalkTold}
+use Rattle.walk.proofs.Steps.{later-next, walk-is}
+use Rattle.walk.proofs.Tells.{told-same, told-damaged, told-no-rule}
+use Rattle.walk.proofs.Uncovered.{from-stands}
+
+-- ---- one node, by its tag
+module _ (table term : List ℕ) (s : Walk) (h : Holds term s) where
+  abbrev ps : List PartAt
+  ps = placesOf term s
+
+  pub step-past : length table ≤ s .at → (r : Walk) → r ≡ stoppedAs s 3 → StepTold table term s r
+  unfolding nextAt nodeAt
+  step-past l r e = rw e (told-damaged table term (λ fits. nextAt fits table (s .at) ps) s h (λ fits. rw (drop-of-length-le table {i = s .at} l)))
+
+  module _ (inside : s .at < length table) where
+    node-is : (fits : ℕ → List ℕ → Bool) → nextAt fits table (s .at) ps ≡ nodeAt fits table (s .at) ps (getD table (s .at) 0 ∷ drop (s .at + 1) table)
+    unfolding nextAt
+    node-is fits = let z : suc (s .at) ≡ s .at + 1 = omega arith in rw (drop-cons table (s .at) 0 inside, z)
+
+    pub step-fail : getD table (s .at) 0 ≡ 0 → (r : Walk) → r ≡ stoppedAs s 1 → StepTold table term s r
+    unfolding nodeAt
+    step-fail t r e = rw e (told-no-rule table term (λ fits. nextAt fits table (s .at) ps) s h (λ fits. node-is fits ∙ rw t))
+
+    pub step-leaf : getD table (s .at) 0 ≡ 1 → (r : Walk) → LeafTold table term s r → StepTold table term s r
+    unfolding nodeAt
+    step-leaf t r e = told-same table term _ (λ fits. leafNode fits (s .at) ps (drop (s .at + 1) table)) r (λ fits. node-is fits ∙ rw t) e
+
+    pub step-switch : getD table (s .at) 0 ≡ 2 → (r : Walk) → SwitchTold table term s r → StepTold table term s r
+    unfolding nodeAt
+    step-switch t r e = told-same table term _ (λ fits. switchNode table (s .at) ps (drop (s .at + 1) table)) r (λ fits. node-is fits ∙ rw t) e
+
+    pub step-closed : getD table (s .at) 0 ≡ 3 → (r : Walk) → ClosedTold table term s r → StepTold table term s r
+    unfolding nodeAt
+    step-closed t r e = told-same table term _ (λ fits. closedNode table (s .at) ps (drop (s .at + 1) table)) r (λ fits. node-is fits ∙ rw t) e
+
+    pub step-same : getD table (s .at) 0 ≡ 4 → (r : Walk) → SameTold table term s r → StepTold table term s r
+    unfolding nodeAt
+    step-same t r e = told-same table term _ (λ fits. sameNode table (s .at) ps (drop (s .at + 1) table)) r (λ fits. node-is fits ∙ rw t) e
+
+    pub step-other : (getD table (s .at) 0 ≡ 0 → ⊥) → (getD table (s .at) 0 ≡ 1 → ⊥) → (getD table (s .at) 0 ≡ 2 → ⊥) → (getD table (s .at) 0 ≡ 3 → ⊥) → (getD table (s .at) 0 ≡ 4 → ⊥)
+        → (r : Walk) → r ≡ stoppedAs s 3 → StepTold table term s r
+    unfolding nodeAt
+    step-other a b c d e r q =
+        rw q
+        (told-damaged table term (λ fits. nextAt fits table (s .at) ps) s h
+        (λ fits. node-is fits ∙ rw (ne-eqb (getD table (s .at) 0) 0 a, ne-eqb (getD table (s .at) 0) 1 b, ne-eqb (getD table (s .at) 0) 2 c, ne-eqb (getD table (s .at) 0) 3 d, ne-eqb (getD table (s .at) 0) 4 e)))
+
+-- ---- the loop
+abbrev pub left : List ℕ → Walk → ℕ
+left table s = pick (eqb (s .stands) 0) (suc (length table - s .at)) 0
+
+module _ (table term : List ℕ) (s r : Walk) (going : s .stands ≡ 0) (t : StepTold table term s r) where
+  pub step-less : left table r < left table s
+  unfolding Told
+  step-less = rw (eq-eqb (s .stands) 0 going) (go (r .stands) (t .1))
+    where
+      go : (n : ℕ) → Said table term (λ fits. nextAt fits table (s .at) (placesOf term s)) r n → pick (eqb n 0) (suc (length table - r .at)) 0 < suc (length table - s .at)
+      go zero e =
+          let l = rw (e (λ a b. true)) at (later-next (λ a b. true) table (s .at) (placesOf term s)) in
+          omega (arith, l .0, l .1)
+      go (suc n) e = rw (ne-eqb (suc n) 0 (λ z. omega arith)) (omega arith)
+
+  pub step-stands : (walked : (ℕ → List ℕ → Bool) → Walked) → Standing table term walked s → Standing table term walked r
+  unfolding Told Standing
+  step-stands walked q = (t .0, go (r .stands) (t .1))
+    where
+      from : (n : ℕ) → n ≡ 0 → Stood table term walked s n → (fits : ℕ → List ℕ → Bool) → walked fits ≡ walkFrom fits table (s .at) (placesOf term s)
+      from zero z e = e
+      from (suc n) z e = absurd (omega arith)
+
+      here : (fits : ℕ → List ℕ → Bool) → walked fits ≡ follow (walkFrom fits table) (nextAt fits table (s .at) (placesOf term s))
+      here fits = from (s .stands) going (q .1) fits ∙ walk-is fits table (s .at) (placesOf term s)
+
+      chosen : (b : Bool) (f : ℕ → List PartAt → Walked) (at : ℕ) (w : Walked) → follow f (unless b at (Ends w)) ≡ pick b w (DamagedAt at)
+      chosen true f at w = refl
+      chosen false f at w = refl
+
+      go : (n : ℕ) → Said table term (λ fits. nextAt fits table (s .at) (placesOf term s)) r n → Stood table term walked r n
+      go zero e = λ fits. here fits ∙ ap (follow (walkFrom fits table)) (e fits)
+      go (suc zero) e = λ fits. here fits ∙ ap (follow (walkFrom fits table)) (e fits)
+      go (suc (suc zero)) e =
+          record {
+            leaf = e .leaf;
+            ends = λ fits.
+                here fits ∙ ap (follow (walkFrom fits table)) (e .ends fits)
+                ∙ chosen (fits (getD table (r .at + 1) 0) (countsOf (leafVariables table (r .at)))) (walkFrom fits table) (r .at) (leafRule table (placesOf term r) (r .at));
+          }
+      go (suc (suc (suc n))) e = λ fits. here fits ∙ ap (follow (walkFrom fits table)) (e fits)
+
+  pub step-holds : Holds term r
+  unfolding Told
+  step-holds = t .0
+
+-- ---- the root
+module _ (term : List ℕ) (p : Parted term) (some-words : 0 < length term) where
+  entry-place : placeIn term (replicate 4096 0) (replicate 4096 0) (replicate 4096 false) 0 ≡ record { part = partFrom term 0; depth = 0; entered = false }
+  unfolding placeIn
+  entry-place = rw (getD-replicate {A = ℕ} 4096 0 0 0 (omega arith), getD-replicate 4096 0 false false (omega arith))
+
+  entry-places : placesOf term entryAt ≡ rootPart (partFrom term 0)
+  unfolding placesFrom
+  entry-places = ap (λ (q : PartAt). q ∷ []) entry-place
+
+  pub entry-holds : Holds term entryAt
+  entry-holds =
+      let b = p .begins 0 some-words in
+      let f = from-stands term 0 (b .0) (b .1) (b .2) in
+      let l : length (words (b .0)) ≤ length term = omega (arith, ap length (b .2 .same), length-append (words (b .0)) (b .1)) in
+      record {
+        offsets-long = length-replicate {A = ℕ} 4096 0;
+        depths-long = length-replicate {A = ℕ} 4096 0;
+        entered-long = length-replicate 4096 false;
+        within = λ n i. let z : n ≡ 0 = omega arith in rw z some-words;
+        low = λ n i. let z : n ≡ 0 = omega arith in rw (z, f) (omega (arith, b .2 .low));
+        few = omega (arith, some-words);
+        room = rw (entry-places, f) (omega (arith, total-root (b .0) (b .2 .wide), l));
+      }
+
+  pub entry-stands : (table : List ℕ) → Standing table term (λ fits. walkFrom fits table 0 (rootPart (partFrom term 0))) entryAt
+  unfolding Standing
+  entry-stands table = (entry-holds, λ fits. rw (entry-places))
+
+pub walk-ended : (table term : List ℕ) (s : Walk) → Standing table term (λ fits. walkFrom fits table 0 (rootPart (partFrom term 0))) s → (s .stands ≡ 0 → ⊥) → WalkTold table term s
+unfolding WalkTold
+walk-ended table term s t n = (t, n)
+
+pub standing-holds : (table term : List ℕ) (walked : (ℕ → List ℕ → Bool) → Walked) (s : Walk) → Standing table term walked s → Holds term s
+unfolding Standing
+standing-holds table term walked s t = t .0

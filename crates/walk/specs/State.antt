@@ -1,0 +1,153 @@
+-- What the walk's state in memory stands for: the places uncovered so far, as parts of the words.
+use Prim.Native.Nat.{ℕ, zero, suc, _+_, _-_, _≤_, _<_}
+use mathlib.Core.Path.{_≡_}
+use mathlib.Core.Bool.{Bool, true, false}
+use mathlib.Core.List.{List, [], _∷_, _++_}
+use mathlib.Core.Option.{Option, none, some}
+use lib.ListN.{length, getD, drop, replicate}
+use Rattle.term.specs.Word.{pick}
+use Rattle.term.specs.Row.{Row, words, nesting}
+use Rattle.term.specs.Walk.{Stands}
+use Rattle.term.specs.Part.{part, bodyOf}
+use lib.Dec.{leb}
+use Rattle.term.specs.declared.answer.Answer.the-variants.{Done, Short}
+use Rattle.term.specs.declared.renumber.Step.{Step}
+use Rattle.term.specs.declared.renumber.Step.the-variants as step
+use Rattle.fit.specs.Match.{bodyList, fitted, matchAnswer, matchWords, matchLengths}
+use Rattle.tree.specs.Tree.{LeafVariable, countsOf}
+use Rattle.tree.specs.Find.{PartAt, rootPart, enterPart, bodyOr, leafBody}
+use Rattle.tree.proofs.Laws.{total}
+use Rattle.walk.specs.Walk.{Walked, NoneFits, RuleFits, DamagedAt, Next, Ends, Goes, unless, goTo, variablesIn, soundVariables, caseNext, switchNode, closedNode, sameNode, leafNode, nextAt, walkFrom}
+use Rattle.walk.specs.declared.state.Walk.{Walk}
+
+abbrev pub stoppedAs : Walk → ℕ → Walk
+stoppedAs s stands = record { offsets = s .offsets; depths = s .depths; entered = s .entered; count = s .count; at = s .at; stands = stands }
+
+abbrev pub entryAt : Walk
+entryAt = record { offsets = replicate 4096 0; depths = replicate 4096 0; entered = replicate 4096 false; count = 1; at = 0; stands = 0 }
+
+-- the part that begins at an offset of the words
+unfoldable pub partFrom : List ℕ → ℕ → Row
+partFrom term at = bodyOr (part (drop at term))
+
+unfoldable pub placeIn : List ℕ → List ℕ → List ℕ → List Bool → ℕ → PartAt
+placeIn term offsets depths entered n = record { part = partFrom term (getD offsets n 0); depth = getD depths n 0; entered = getD entered n false }
+
+-- so many places from a number on
+unfoldable pub placesFrom : (ℕ → PartAt) → ℕ → ℕ → List PartAt
+placesFrom place n zero = []
+placesFrom place n (suc more) = place n ∷ placesFrom place (suc n) more
+
+abbrev pub placesOf : List ℕ → Walk → List PartAt
+placesOf term s = placesFrom (placeIn term (s .offsets) (s .depths) (s .entered)) 0 (s .count)
+
+-- ---- each offset of the words begins a part, as in a term and in what follows an offset of a term
+pub record Parted (term : List ℕ) : Type 0 where
+  pub begins : (at : ℕ) → at < length term → (f : Row) × (after : List ℕ) × Stands 64 1 (drop at term) 0 f after
+  pub short : length term ≤ 4096
+
+-- the places lie in the words, and with what can still be uncovered below them they are no more than the words
+pub record Holds (term : List ℕ) (s : Walk) : Type 0 where
+  pub offsets-long : length (s .offsets) ≡ 4096
+  pub depths-long : length (s .depths) ≡ 4096
+  pub entered-long : length (s .entered) ≡ 4096
+  pub within : (n : ℕ) → n < s .count → getD (s .offsets) n 0 < length term
+  pub low : (n : ℕ) → n < s .count → getD (s .depths) n 0 + nesting (partFrom term (getD (s .offsets) n 0)) ≤ 64
+  pub few : s .count ≤ length term
+  pub room : total (placesOf term s) ≤ length term
+
+-- whether the variables of a Leaf were read and are sound
+abbrev pub soundLeaf : List PartAt → Option (List LeafVariable) → Bool
+soundLeaf ps none = false
+soundLeaf ps (some vs) = soundVariables ps vs
+
+-- ---- what a node says, as the state has it afterwards, whether a book is given or not
+abbrev pub variablesOr : Option (List LeafVariable) → List LeafVariable
+variablesOr none = []
+variablesOr (some vs) = vs
+
+-- the variables of a Leaf at an address
+abbrev pub leafVariables : List ℕ → ℕ → List LeafVariable
+leafVariables table at = variablesOr (variablesIn (getD table (at + 2) 0) (drop (at + 3) table))
+
+-- the rule of a Leaf at an address, with its bodies
+abbrev pub leafRule : List ℕ → List PartAt → ℕ → Walked
+leafRule table ps at = RuleFits (record { number = getD table (at + 1) 0; bodies = leafBody ps (leafVariables table at) }) (getD table (at + 2) 0)
+
+-- a Leaf where each variable has a body
+pub record LeafSound (table term : List ℕ) (s : Walk) : Type 0 where
+  pub inside : s .at + 3 ≤ length table
+  pub few : getD table (s .at + 2) 0 ≤ 16
+  pub sound : soundLeaf (placesOf term s) (variablesIn (getD table (s .at + 2) 0) (drop (s .at + 3) table)) ≡ true
+
+pub record LeafAt (table term : List ℕ) (next : (ℕ → List ℕ → Bool) → Next) (s : Walk) : Type 0 where
+  pub leaf : LeafSound table term s
+  pub ends : (fits : ℕ → List ℕ → Bool) → next fits ≡ unless (fits (getD table (s .at + 1) 0) (countsOf (leafVariables table (s .at)))) (s .at) (Ends (leafRule table (placesOf term s) (s .at)))
+
+abbrev pub Said : List ℕ → List ℕ → ((ℕ → List ℕ → Bool) → Next) → Walk → ℕ → Type 0
+Said table term next s zero = (fits : ℕ → List ℕ → Bool) → next fits ≡ Goes (s .at) (placesOf term s)
+Said table term next s (suc zero) = (fits : ℕ → List ℕ → Bool) → next fits ≡ Ends NoneFits
+Said table term next s (suc (suc zero)) = LeafAt table term next s
+Said table term next s (suc (suc (suc n))) = (fits : ℕ → List ℕ → Bool) → next fits ≡ Ends (DamagedAt (s .at))
+
+unfoldable pub Told : List ℕ → List ℕ → ((ℕ → List ℕ → Bool) → Next) → Walk → Type 0
+Told table term next s = Holds term s × Said table term next s (s .stands)
+
+abbrev pub GoTold : List ℕ → Walk → ℕ → Walk → Type 0
+GoTold table s to r = (term : List ℕ) → Holds term s → Told table term (λ fits. goTo table (s .at) to (placesOf term s)) r
+
+-- the state after a place was entered
+pub record EnterTold (term : List ℕ) (s : Walk) (n to : ℕ) (r : Walk) : Type 0 where
+  pub holds : Holds term r
+  pub places : placesOf term r ≡ enterPart n (placesOf term s)
+  pub there : r .at ≡ to
+  pub same : r .stands ≡ s .stands
+
+abbrev pub CaseTaken : List ℕ → List ℕ → Walk → ℕ → ℕ → Walk → Type 0
+CaseTaken table term s n to r = Told table term (λ fits. caseNext table (s .at) n (placesOf term s) 0 (some to)) r
+
+abbrev pub SwitchTold : List ℕ → List ℕ → Walk → Walk → Type 0
+SwitchTold table term s r = Told table term (λ fits. switchNode table (s .at) (placesOf term s) (drop (s .at + 1) table)) r
+
+abbrev pub ClosedTold : List ℕ → List ℕ → Walk → Walk → Type 0
+ClosedTold table term s r = Told table term (λ fits. closedNode table (s .at) (placesOf term s) (drop (s .at + 1) table)) r
+
+abbrev pub SameTold : List ℕ → List ℕ → Walk → Walk → Type 0
+SameTold table term s r = Told table term (λ fits. sameNode table (s .at) (placesOf term s) (drop (s .at + 1) table)) r
+
+abbrev pub LeafTold : List ℕ → List ℕ → Walk → Walk → Type 0
+LeafTold table term s r = Told table term (λ fits. leafNode fits (s .at) (placesOf term s) (drop (s .at + 1) table)) r
+
+abbrev pub StepTold : List ℕ → List ℕ → Walk → Walk → Type 0
+StepTold table term s r = Told table term (λ fits. nextAt fits table (s .at) (placesOf term s)) r
+
+-- ---- how a walk stands: it goes on from here, or it ended
+pub record LeafFound (table term : List ℕ) (walked : (ℕ → List ℕ → Bool) → Walked) (s : Walk) : Type 0 where
+  pub leaf : LeafSound table term s
+  pub ends : (fits : ℕ → List ℕ → Bool) → walked fits ≡ pick (fits (getD table (s .at + 1) 0) (countsOf (leafVariables table (s .at)))) (leafRule table (placesOf term s) (s .at)) (DamagedAt (s .at))
+
+abbrev pub Stood : List ℕ → List ℕ → ((ℕ → List ℕ → Bool) → Walked) → Walk → ℕ → Type 0
+Stood table term walked s zero = (fits : ℕ → List ℕ → Bool) → walked fits ≡ walkFrom fits table (s .at) (placesOf term s)
+Stood table term walked s (suc zero) = (fits : ℕ → List ℕ → Bool) → walked fits ≡ NoneFits
+Stood table term walked s (suc (suc zero)) = LeafFound table term walked s
+Stood table term walked s (suc (suc (suc n))) = (fits : ℕ → List ℕ → Bool) → walked fits ≡ DamagedAt (s .at)
+
+unfoldable pub Standing : List ℕ → List ℕ → ((ℕ → List ℕ → Bool) → Walked) → Walk → Type 0
+Standing table term walked s = Holds term s × Stood table term walked s (s .stands)
+
+-- the walk over the part that the words begin with, once it ended
+unfoldable pub WalkTold : List ℕ → List ℕ → Walk → Type 0
+WalkTold table term r = Standing table term (λ fits. walkFrom fits table 0 (rootPart (partFrom term 0))) r × (r .stands ≡ 0 → ⊥)
+
+-- ---- the body of a part in a lent slice, zeros after it; Stuck where there is no room for it
+unfoldable pub PartWritten : ℕ → List ℕ → List ℕ → List ℕ → List ℕ → Step → Type 0
+PartWritten d ys ws out done (step.Done n) =
+    (b : Row) × (bodyOf d ys ws ≡ some b) × (n ≡ length (words b)) × (n ≤ length out) × (n ≤ length ws) × (done ≡ words b ++ replicate (length out - n) 0)
+PartWritten d ys ws out done step.Stuck = (b : Row) → bodyOf d ys ws ≡ some b → length out < length (words b)
+
+-- the bodies of a Leaf: true where they have room
+unfoldable pub LeafWritten : List ℕ → List ℕ → Walk → ℕ → List ℕ → List ℕ → Bool → Type 0
+LeafWritten table term s room bodies lengths r =
+    let vars = getD table (s .at + 2) 0 in
+    let b = leafBody (placesOf term s) (leafVariables table (s .at)) in
+    (leb (length (bodyList b 0 vars)) room ≡ r) × (pick r Done Short ≡ matchAnswer room (fitted vars b)) × (bodies ≡ matchWords room (fitted vars b)) × (lengths ≡ matchLengths room (fitted vars b))

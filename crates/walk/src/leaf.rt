@@ -1,0 +1,108 @@
+// A Leaf: rule, n, then for each variable the place, k, the list.
+ghost use mathlib.Core.Path.{_≡_};
+ghost use Prim.Native.Nat.{_≤_};
+ghost use lib.ListN.{length, drop, replicate};
+ghost use Rattle.walk.specs.Walk.{variablesIn};
+ghost use Rattle.walk.specs.State.{placesOf, Parted, Holds, soundLeaf, LeafSound, PartWritten, LeafWritten};
+use crate::state::NODE;
+use crate::state::SECOND;
+use crate::state::Walk;
+use term::lent::clear;
+use term::list::MOST_IDS;
+use term::part::Written;
+use term::part::is_closed;
+use term::part::write_body;
+use term::renumber::Step;
+
+// Where the k of a variable is.
+const COUNT: usize = 1;
+
+// A variable has so many words before its list.
+const VARIABLE: usize = 2;
+
+// Whether the variables from an address on are sound: each place is uncovered, each list is one for it, and each part has a body.
+pub fn sound_leaf(walk: Walk, tree: &[u32], term: &[u32], from: usize, n: u32) -> bool
+    requires { ⌜ Parted (now term) × Holds (now term) walk × (from ≤ length (now tree)) ⌝ }
+    ensures { λ r. ⌜ r ≡ soundLeaf (placesOf (now (term .entry)) walk) (variablesIn n (drop from (now (tree .entry)))) ⌝ }
+{
+    let mut at = from;
+    let mut more = n;
+    while more != 0 {
+        if tree.len() - at < VARIABLE {
+            return false;
+        }
+        let place = tree[at] as usize;
+        let k = tree[at + COUNT] as usize;
+        let list = at + VARIABLE;
+        if tree.len() - list < k {
+            return false;
+        }
+        if MOST_IDS < k {
+            return false;
+        }
+        if walk.count <= place {
+            return false;
+        }
+        let end = list + k;
+        let offset = walk.offsets[place] as usize;
+        if !is_closed(&term[offset..], walk.depths[place] as u32, &tree[list..end]) {
+            return false;
+        }
+        at = end;
+        more = more - 1;
+    }
+    true
+}
+
+// Writes the body of the part that the words begin with.
+fn write_part(words: &[u32], d: u32, list: &[u32], out: &mut [u32]) -> Step
+    ensures { λ r. ⌜ PartWritten d (now (list .entry)) (now (words .entry)) (now (out .entry)) (now (out .exit)) r ⌝ }
+{
+    match write_body(words, d, list, out) {
+        Written::Words(n) => Step::Done(n),
+        Written::NoBody => Step::Stuck,
+        Written::Over => Step::Stuck,
+        Written::Short => Step::Stuck,
+    }
+}
+
+// Writes the bodies of the variables of a sound Leaf one after the other, and their lengths, into cleared slices. False where
+// there is no room.
+pub fn write_leaf(
+    walk: Walk,
+    tree: &[u32],
+    term: &[u32],
+    bodies: &mut [u32],
+    lengths: &mut [u32],
+) -> bool
+    requires { ⌜ Parted (now term) × Holds (now term) walk × LeafSound (now tree) (now term) walk × (now bodies ≡ replicate (length (now bodies)) 0)
+        × (now lengths ≡ replicate 16 0) ⌝ }
+    ensures { λ r. ⌜ LeafWritten (now (tree .entry)) (now (term .entry)) walk (length (now (bodies .entry))) (now (bodies .exit)) (now (lengths .exit)) r ⌝ }
+{
+    let node = walk.at;
+    let vars = tree[node + SECOND] as usize;
+    let mut at = node + NODE;
+    let mut to = 0;
+    let mut x: usize = 0;
+    while x < vars {
+        let place = tree[at] as usize;
+        let list = at + VARIABLE;
+        let end = list + tree[at + COUNT] as usize;
+        let offset = walk.offsets[place] as usize;
+        let d = walk.depths[place] as u32;
+        match write_part(&term[offset..], d, &tree[list..end], &mut bodies[to..]) {
+            Step::Done(n) => {
+                lengths[x] = n as u32;
+                to += n;
+                x += 1;
+                at = end;
+            }
+            Step::Stuck => {
+                clear(bodies);
+                clear(lengths);
+                return false;
+            }
+        }
+    }
+    true
+}
