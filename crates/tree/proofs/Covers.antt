@@ -13,16 +13,11 @@ use Rattle.term.proofs.Laws.{never}
 use Rattle.fit.specs.Left.{Left, end, hole, part, wide}
 use Rattle.fit.specs.Constraint.{Place, occurrences}
 use Rattle.fit.proofs.Laws.{wide-hole, wide-part, occurrences-end, occurrences-hole, occurrences-part, Each, each-join}
+use Rattle.tree.specs.Covered.{Within, Waiting, Covered}
 use Rattle.tree.specs.Path.{Uncovered, placeNumbered, childrenFrom, marked, enter, root}
 use Rattle.tree.specs.Rows.{subsUnder, subAt, headHere, headAt, lowestOpen}
 use Rattle.tree.proofs.Subs.{subsFrom, from-hole, from-part, from-start, sub-child, head-sub, headed-below}
-use Rattle.tree.proofs.Parts.{Within}
 use Rattle.tree.proofs.Fits.{none-here}
-
--- a place is uncovered and not entered
-abbrev pub Waiting : Place → List Uncovered → Type 0
-Waiting p [] = ⊥
-Waiting p (u ∷ us) = ((u .place ≡ p) × (u .entered ≡ false)) ⊎ Waiting p us
 
 waiting-within : (p : Place) (us : List Uncovered) → Waiting p us → Within p us
 waiting-within p [] w = absurd w
@@ -71,12 +66,6 @@ child-waits p (suc more) i j l h = go (decLe (suc i) j) (λ q. child-waits p mor
     go : Dec (suc i ≤ j) → (suc i ≤ j → Waiting (j ∷ p) (childrenFrom p (suc i) more)) → (((i ∷ p) ≡ (j ∷ p)) × (false ≡ false)) ⊎ Waiting (j ∷ p) (childrenFrom p (suc i) more)
     go (yes q) r = inr (r q)
     go (no q) r = let z : i ≡ j = omega arith in inl (ap (_∷ p) z, refl)
-
--- ---- what is covered
-abbrev pub Covered : List Uncovered → Place → ℕ → Left → Type 0
-Covered us p i end = Unit {0}
-Covered us p i (hole x ys rest) = Within (i ∷ p) us × Covered us p (suc i) rest
-Covered us p i (part h kids rest) = (Waiting (i ∷ p) us ⊎ Covered us (i ∷ p) 0 kids) × Covered us p (suc i) rest
 
 children-covered : (us : List Uncovered) (p : Place) (c : ℕ) → ((j : ℕ) → j < c → Waiting (j ∷ p) us) → (i : ℕ) (k : Left) → i + wide k ≤ c → Covered us p i k
 children-covered us p c w i end l = tt

@@ -14,12 +14,13 @@ use Rattle.fit.specs.Constraint.{Place, treeAt, isHead, Occurrence, occurrences
 use Rattle.fit.specs.Lowest.{Fitting}
 use Rattle.fit.proofs.Laws.{Each, first-each, IsThere, Names, EachNames, constraints-name}
 use Rattle.tree.specs.Tree.{Tree, Switch}
+use Rattle.tree.specs.Covered.{Within}
 use Rattle.tree.specs.Path.{Uncovered, OnPath, placeNumbered, enter}
 use Rattle.tree.specs.Rows.{RuleRow, subsUnder, headAt, lowestOpen, constraintsLeft, size}
 use Rattle.tree.specs.Compile.{without, addHead, heads, caseRows, defaultRows, entering, holding, rowsWithout, testOf, variableAt, variablesFrom, leafOf, casesOf, nodeOf, step, compile}
 use Rattle.tree.specs.Find.{PartAt, partOf, enterPart, bodyFor, bodyOr, leafBody, find, findCase}
 use Rattle.tree.proofs.Subs.{from-start, subs-root, head-headed, Full, full-at}
-use Rattle.tree.proofs.Parts.{partsAt, part-of, enter-parts, Within, body-number}
+use Rattle.tree.proofs.Parts.{partsAt, part-of, enter-parts, body-number}
 use Rattle.tree.proofs.Fits.{OpenAt, open-at, variables-fit}
 use Rattle.tree.proofs.Holds.{holdsIn, allIn, ListIs, names-unstruck}
 use Rattle.tree.proofs.Sizes.{case-less, default-less, yes-less, no-less}

@@ -13,6 +13,7 @@ use Rattle.fit.specs.Left.{Left, part, wide}
 use Rattle.fit.specs.Constraint.{Place, treeAt, isHead, Occurrence, occurrences, firstOf, Constraint, constraints}
 use Rattle.fit.specs.Lowest.{Fitting}
 use Rattle.fit.proofs.Laws.{IsThere, Names, EachNames}
+use Rattle.tree.specs.Covered.{Covered}
 use Rattle.tree.specs.Path.{Uncovered, OnPath, placeNumbered, enter}
 use Rattle.tree.specs.Rows.{RuleRow, subsUnder, subAt, headHere, headAt, has, unstruck, constraintsLeft}
 use Rattle.tree.specs.Compile.{without, addHead, heads, inCase, caseRows, inDefault, defaultRows, entering, holding, rowsWithout}
@@ -22,7 +23,7 @@ use Rattle.tree.proofs.Subs.{from-start, subs-root, head-sub, head-head
 use Rattle.tree.proofs.Parts.{bodyThere}
 use Rattle.tree.proofs.Fits.{openFits, enteredOf, open-split, other-fits, enter-none-fits, enter-some-fits}
 use Rattle.tree.proofs.Holds.{holdsIn, allIn, ListIs, strike-in, has-fails, names-unstruck}
-use Rattle.tree.proofs.Covers.{Covered, enter-covered}
+use Rattle.tree.proofs.Covers.{enter-covered}
 
 -- what is known of a row on a path
 pub record Live (us : List Uncovered) (row : RuleRow) : Type 0 where

@@ -16,6 +16,7 @@ use Rattle.fit.specs.Left.{Left, end, hole, part}
 use Rattle.fit.specs.Constraint.{Place, Occurrence, occurrences, tree, childrenOf, under, treeAt, isHead, shapeFits, bodyHere}
 use Rattle.fit.proofs.Laws.{from, at-from, from-first, under-child, at-root, at-child, children-node, head-nothing, shape-hole, shape-part, occurrences-end, occurrences-hole, occurrences-part, Each, each-join}
 use Rattle.term.proofs.Laws.{and-left, and-right}
+use Rattle.tree.specs.Covered.{Within}
 use Rattle.tree.specs.Path.{Uncovered, placeNumbered, numberIn, childrenFrom, marked, enter}
 use Rattle.tree.specs.Find.{PartAt, partOf, markedPart, childParts, insideOf, enterPart, bodyFor}
 use Rattle.tree.proofs.Basics.{head-is, head-here, formed-at}
@@ -114,11 +115,6 @@ bodyThere t p ys = bodyHere (depthAt t p) ys (treeAt t p)
 pub body-for : (t : Row) (us : List Uncovered) (n : ℕ) (ys : List ℕ) → bodyFor (partsAt t us) n ys ≡ bodyThere t (placeNumbered n us) ys
 unfolding bodyFor bodyThere
 body-for t us n ys = rw (part-of t us n, depth-of t us n)
-
--- a place stands among the uncovered ones: its number leads to it
-abbrev pub Within : Place → List Uncovered → Type 0
-Within p [] = ⊥
-Within p (u ∷ us) = (u .place ≡ p) ⊎ Within p us
 
 pub number-place : (p : Place) (us : List Uncovered) → Within p us → placeNumbered (numberIn p us) us ≡ p
 unfolding placeNumbered numberIn

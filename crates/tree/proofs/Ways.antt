@@ -21,11 +21,12 @@ use Rattle.fit.specs.Match.{leftIn}
 use Rattle.fit.specs.Lowest.{Fitting, lowest}
 use Rattle.fit.proofs.Laws.{GoodRule, isMatch, Each, first-each, IsThere, Names, EachNames, constraints-name, FirstBody, matched-first, accepted-good, occurs-first, OneVariable, constraints-one, first-variable, Counted, rule-counted}
 use Rattle.tree.specs.Tree.{countsOf, Tree, Switch, Case}
+use Rattle.tree.specs.Covered.{Within}
 use Rattle.tree.specs.Path.{Uncovered, OnPath, placeNumbered, numberIn, start}
 use Rattle.tree.specs.Rows.{RuleRow, headAt, lowestOpen, has, unstruck, constraintsLeft, size}
 use Rattle.tree.specs.Compile.{heads, inCase, caseRows, inDefault, defaultRows, entering, holding, rowsWithout, testOf, variableAt, variablesFrom, leafOf, casesOf, nodeOf, step, compile, rowThen, bookRows, bookTree}
 use Rattle.tree.specs.Find.{rootPart, partOf, enterPart, bodyFor}
-use Rattle.tree.proofs.Parts.{depthAt, partsAt, part-of, depth-of, enter-parts, Within, number-place, number-less, length-parts, body-number, DepthIs}
+use Rattle.tree.proofs.Parts.{depthAt, partsAt, part-of, depth-of, enter-parts, number-place, number-less, length-parts, body-number, DepthIs}
 use Rattle.tree.proofs.Fits.{openFits, enteredOf, OpenAt, open-at, variables-fit}
 use Rattle.tree.proofs.Holds.{holdsIn, allIn, ListIs, GoodListIs, good-lists, body-there}
 use Rattle.tree.proofs.Sizes.{case-less, default-less, yes-less, no-less}

@@ -6,4 +6,5 @@ pub mod Find
 pub mod Layout
 pub mod Compiled
 pub mod Tables
+pub mod Covered
 pub mod Stands

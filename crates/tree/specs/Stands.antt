@@ -8,15 +8,17 @@ use lib.ListN.{length, getD}
 use lib.Seq.{sets}
 use Rattle.term.specs.declared.renumber.Step.{Step}
 use Rattle.term.specs.declared.renumber.Step.the-variants.{Done, Stuck}
+use Rattle.term.specs.declared.check.Checked.the-variants.{Good}
 use Rattle.term.specs.Word.{Head, variable, pattern, word, pick}
 use Rattle.term.specs.Renumber.{inside}
 use Rattle.term.specs.Part.{sameWords}
-use Rattle.book.specs.Book.{Rule, ruleAt}
+use Rattle.book.specs.Book.{Rule, checkBook, ruleAt}
 use Rattle.fit.specs.Left.{Left, end, hole, part}
 use Rattle.fit.specs.Constraint.{Place, Occurrence, firstOf, Constraint, closedAt, sameAt}
 use Rattle.fit.specs.Match.{leftIn}
 use Rattle.tree.specs.Path.{Uncovered, OnPath, placeNumbered}
 use Rattle.tree.specs.Rows.{RuleRow, has}
+use Rattle.tree.specs.Covered.{Covered}
 use Rattle.tree.specs.Compile.{rowThen, compile}
 use Rattle.tree.specs.Layout.{long, layout}
 use Rattle.tree.specs.Tables.{isFree}
@@ -98,6 +100,7 @@ pub record RowStands (fixed nums marks : List ℕ) (path : OnPath) (r vars : ℕ
   pub here : LeftAt fixed nums (path .uncovered) (r * 64) [] 0 0 left
   pub blank : (more : ℕ) → spread left + more ≡ 64 → BlankAt fixed nums (r * 64 + spread left) more
   pub low : LowWords left
+  pub covered : Covered (path .uncovered) [] 0 left
   pub struck : StruckAt marks (path .held) [] (occurrencesAt (r * 64) [] 0 0 left)
 
 unfoldable pub isOpen : ℕ → List Uncovered → Bool
@@ -106,6 +109,7 @@ isOpen zero (u ∷ us) = not (u .entered)
 isOpen (suc n) (u ∷ us) = isOpen n us
 
 pub record Stands (book fixed nums marks : List ℕ) (count : ℕ) (path : OnPath) : Type 0 where
+  pub accepted : checkBook book ≡ Good
   pub counted : length (path .uncovered) ≡ count
   pub opened : (n : ℕ) → n < count → isFree marks (64 + n) ≡ isOpen n (path .uncovered)
   pub later : (n : ℕ) → count ≤ n → n < 4096 → isFree marks (64 + n) ≡ true

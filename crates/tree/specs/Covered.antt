@@ -1,0 +1,25 @@
+-- Which sub-patterns a path has reached: a row's sub-patterns stand at uncovered places or below open ones.
+use Prim.Native.Nat.{ℕ, suc}
+use mathlib.Core.Path.{_≡_}
+use mathlib.Core.Bool.{false}
+use mathlib.Core.List.{List, [], _∷_}
+use mathlib.Core.Logic.{_⊎_}
+use Rattle.fit.specs.Left.{Left, end, hole, part}
+use Rattle.fit.specs.Constraint.{Place}
+use Rattle.tree.specs.Path.{Uncovered}
+
+-- a place is uncovered
+abbrev pub Within : Place → List Uncovered → Type 0
+Within p [] = ⊥
+Within p (u ∷ us) = (u .place ≡ p) ⊎ Within p us
+
+-- a place is uncovered and not entered
+abbrev pub Waiting : Place → List Uncovered → Type 0
+Waiting p [] = ⊥
+Waiting p (u ∷ us) = ((u .place ≡ p) × (u .entered ≡ false)) ⊎ Waiting p us
+
+-- each pattern variable is uncovered, or below a place that waits
+abbrev pub Covered : List Uncovered → Place → ℕ → Left → Type 0
+Covered us p i end = Unit {0}
+Covered us p i (hole x ys rest) = Within (i ∷ p) us × Covered us p (suc i) rest
+Covered us p i (part h kids rest) = (Waiting (i ∷ p) us ⊎ Covered us (i ∷ p) 0 kids) × Covered us p (suc i) rest
