@@ -2,7 +2,7 @@
 .PHONY: run test
 
 run:
-	@echo 'make run: the program simplify is not built yet; only the layer of terms is here' >&2
+	@echo 'make run: the program simplify is not built yet' >&2
 	@exit 1
 
 # Every crate proved, every must-fail edit refused, every program run, then the tests.

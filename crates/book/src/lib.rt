@@ -3,4 +3,4 @@ pub mod book;
 pub mod ids;
 mod rule;
 mod shape;
-mod variables;
+pub mod variables;

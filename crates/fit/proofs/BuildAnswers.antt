@@ -22,7 +22,7 @@ use Rattle.book.specs.Found.{sidesAt}
 use Rattle.book.specs.declared.book.Sides.{Sides}
 use Rattle.book.specs.declared.book.Found.the-variants as sides
 use Rattle.book.proofs.Laws.{book-rule, sides-rule}
-use Rattle.fit.specs.declared.walk.Both.the-variants.{Done, Stuck}
+use Rattle.fit.specs.declared.fitting.Both.the-variants.{Done, Stuck}
 use Rattle.fit.specs.Fit.{build, IsBody}
 use Rattle.fit.specs.Match.{treeOf, leftIn}
 use Rattle.fit.specs.Told.{LeftStands}

@@ -11,8 +11,8 @@ use Rattle.term.specs.Row.{Row, nothing, node, width, words, kinds, _⧺_}
 use Rattle.term.specs.Renumber.{inside, toTerm}
 use Rattle.term.proofs.Laws.{width-node, width-join, kinds-nothing, kinds-node, kinds-join, kind-symbol, kind-abstraction, words-nothing, abstraction-in-table, join-nothing, term-keeps, inside-symbol, inside-abstraction}
 use Rattle.book.specs.Rule.{idsOf}
-use Rattle.fit.specs.declared.walk.Both.{Both}
-use Rattle.fit.specs.declared.walk.Both.the-variants.{Done, Stuck}
+use Rattle.fit.specs.declared.fitting.Both.{Both}
+use Rattle.fit.specs.declared.fitting.Both.the-variants.{Done, Stuck}
 use Rattle.fit.specs.Left.{Left, end, hole, part, idsOr, leftOf}
 use Rattle.fit.specs.Fit.{build}
 use Rattle.fit.specs.Told.{LeftRow, LeftStands}

@@ -14,8 +14,8 @@ use Rattle.term.specs.Walk.{insideWord}
 use Rattle.term.proofs.Laws.{nesting-node, kind-word, count-word, ident-word, inside-is, count-pattern, ident-pattern}
 use Rattle.book.specs.Ids.{listIn}
 use Rattle.book.proofs.Laws.{ids-counted, list-found}
-use Rattle.fit.specs.declared.walk.Both.{Both}
-use Rattle.fit.specs.declared.walk.Both.the-variants.{Done, Stuck}
+use Rattle.fit.specs.declared.fitting.Both.{Both}
+use Rattle.fit.specs.declared.fitting.Both.the-variants.{Done, Stuck}
 use Rattle.fit.specs.Left.{leftOf}
 use Rattle.fit.specs.Fit.{build}
 use Rattle.fit.specs.Told.{LeftRow, LeftStands}

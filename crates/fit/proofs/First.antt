@@ -17,7 +17,7 @@ use Rattle.term.specs.declared.renumber.Step.the-variants as step
 use Rattle.term.proofs.Laws.{never, same-by-words, body-of, body-keeps, body-answer, body-words, answer-fits, written-fits, padded-fits}
 use Rattle.book.specs.Ids.{listIn, isList, fourOf}
 use Rattle.book.proofs.Laws.{told-list, told-none}
-use Rattle.fit.specs.declared.walk.First.{First}
+use Rattle.fit.specs.declared.fitting.First.{First}
 use Rattle.fit.specs.Fit.{Found, bodyIn}
 use Rattle.fit.specs.Told.{slot, present, Seen, Knows, FirstIs, FirstTold, FirstSame, FirstWritten}
 

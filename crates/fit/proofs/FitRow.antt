@@ -18,8 +18,8 @@ use Rattle.term.specs.Renumber.{inside, toBody}
 use Rattle.term.specs.Walk.{insideWord}
 use Rattle.term.proofs.Laws.{never, words-node, words-nothing, width-node, width-nothing, nesting-node, nesting-nothing, kinds-node, kinds-nothing, formed-node, node-formed, formed-nothing, count-word, kind-word, inside-is, count-symbol, count-abstraction, kind-symbol, kind-abstraction, kind-pattern, inside-symbol, inside-abstraction}
 use Rattle.book.specs.Rule.{idsOf}
-use Rattle.fit.specs.declared.walk.Both.{Both}
-use Rattle.fit.specs.declared.walk.Both.the-variants.{Done, Stuck}
+use Rattle.fit.specs.declared.fitting.Both.{Both}
+use Rattle.fit.specs.declared.fitting.Both.the-variants.{Done, Stuck}
 use Rattle.fit.specs.Left.{Left, end, hole, part, idsOr, leftOf}
 use Rattle.fit.specs.Fit.{Found, bodyThen, bothFound, onlyIf, found, allSame}
 use Rattle.fit.specs.Told.{LeftRow, LeftStands, TermStands, Knows, agreedFrom, FitTold}

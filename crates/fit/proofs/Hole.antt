@@ -16,8 +16,8 @@ use Rattle.term.proofs.Laws.{never, kind-word, count-word, ident-word, kind-sym
 use Rattle.book.specs.Rule.{idsOf}
 use Rattle.book.specs.Ids.{listIn}
 use Rattle.book.proofs.Laws.{ids-counted, list-found}
-use Rattle.fit.specs.declared.walk.Both.{Both}
-use Rattle.fit.specs.declared.walk.Both.the-variants.{Done, Stuck}
+use Rattle.fit.specs.declared.fitting.Both.{Both}
+use Rattle.fit.specs.declared.fitting.Both.the-variants.{Done, Stuck}
 use Rattle.fit.specs.Left.{Left, end, hole, part, idsOr, leftOf}
 use Rattle.fit.specs.Fit.{Found, bodyThen, found, bodyIn}
 use Rattle.fit.specs.Told.{LeftRow, LeftStands, TermStands, slot, Knows, recorded, FirstSame, agreedFrom, FitTold}

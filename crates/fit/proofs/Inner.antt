@@ -16,8 +16,8 @@ use Rattle.term.specs.Row.{Row, nothing, node, width, words, kinds, nesting, Fo
 use Rattle.term.specs.Renumber.{inside}
 use Rattle.term.specs.Walk.{insideWord}
 use Rattle.term.proofs.Laws.{never, words-node, words-nothing, width-node, width-nothing, nesting-node, nesting-nothing, kinds-node, formed-node, count-word, kind-word, inside-is, count-symbol, count-abstraction, kind-symbol, kind-abstraction, kind-pattern, inside-symbol, inside-abstraction, abstraction-in-table}
-use Rattle.fit.specs.declared.walk.Both.{Both}
-use Rattle.fit.specs.declared.walk.Both.the-variants.{Done, Stuck}
+use Rattle.fit.specs.declared.fitting.Both.{Both}
+use Rattle.fit.specs.declared.fitting.Both.the-variants.{Done, Stuck}
 use Rattle.fit.specs.Left.{Left, end, hole, part, leftOf}
 use Rattle.fit.specs.Fit.{Found, bothFound, onlyIf, found}
 use Rattle.fit.specs.Told.{LeftRow, LeftStands, TermStands, Knows, agreedFrom, FitTold}

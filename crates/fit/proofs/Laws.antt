@@ -19,7 +19,6 @@ pub use Rattle.fit.proofs.Above.{head-nothing, head-node, shape-end, sh
 pub use Rattle.fit.proofs.Above.{occurrences-end, occurrences-hole, occurrences-part, Each, Names, EachNames, each-join, first-each, constraints-name}
 pub use Rattle.fit.proofs.Above.{body-nothing, body-node, body-at, holds-closed, holds-same, all-hold-none, all-hold-more}
 pub use Rattle.fit.proofs.Above.{IsThere, occurs-first, beyond-first, FirstBody, matched-first, lowest-zero, lowest-more}
-pub use Rattle.fit.proofs.Above.{OneVariable, constraints-one, first-variable, Counted, rule-counted}
 pub use Rattle.fit.proofs.Above.{OneVariable, constraints-one, first-variable, Counted, rule-counted, constraints-few}
 pub use Rattle.fit.proofs.Above.{left-of-nothing, left-of-symbol, left-of-abstraction, left-of-variable, left-of-pattern, left-in}
 -- Building is limited by what it says: formed, 64 levels and 4,096 words.
@@ -33,3 +32,12 @@ pub use Rattle.fit.proofs.InOrder.{Leaves, refused-leaves, SoMany, many
 pub use Rattle.fit.proofs.Clauses.{build-end, build-hole, build-part, largest-nothing, largest-node, within-limits-is, limited-is}
 pub use Rattle.fit.proofs.Clauses.{LowestFits, lowest-none, lowest-some}
 pub use Rattle.fit.proofs.Limits.{within-limits}
+-- What is answered and left of a match, with room and without.
+pub use Rattle.fit.proofs.Fitted.{refused-answer, fitted-room, fitted-short, same-bodies}
+-- Rows written one after the other from an offset on; where a tree stands in words.
+pub use Rattle.fit.proofs.Building.{row-none, row-first-over, row-then, row-full, row-node}
+pub use Rattle.fit.proofs.FitRow.{further, words-tree, TermFirst, term-first}
+pub use Rattle.fit.proofs.Inner.{head-at}
+-- Lines of definitions: depth, first occurrences, constraints, bodies in variable order, what is left of what was built.
+pub use Rattle.fit.proofs.Lines.{deep-hole, deep-part, first-nothing, first-here, closeds-none, closeds-more, sames-none, sames-more, constraints-are}
+pub use Rattle.fit.proofs.Lines.{bodies-none, bodies-more, lengths-none, lengths-more, start-none, start-more, words-at-are, refused-built, built-built}

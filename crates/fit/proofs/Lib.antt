@@ -29,6 +29,8 @@ mod BodyLoop
 mod InOrder
 mod OneRule
 mod Matched
+mod Fitted
+mod Lines
 mod Computed
 mod Clauses
 pub mod Laws

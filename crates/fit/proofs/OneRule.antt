@@ -13,8 +13,8 @@ use Rattle.term.specs.Word.{word, pick}
 use Rattle.term.specs.Row.{Row, nothing, node}
 use Rattle.term.specs.Renumber.{inside, toBody}
 use Rattle.term.proofs.Laws.{never}
-use Rattle.fit.specs.declared.walk.Both.{Both}
-use Rattle.fit.specs.declared.walk.Both.the-variants.{Done, Stuck}
+use Rattle.fit.specs.declared.fitting.Both.{Both}
+use Rattle.fit.specs.declared.fitting.Both.the-variants.{Done, Stuck}
 use Rattle.fit.specs.Left.{Left, end, hole, part, leftOf, occurs}
 use Rattle.fit.specs.Fit.{Found, bodyThen, bothFound, onlyIf, found, bodyIn, allSame, agreed, matching}
 use Rattle.fit.specs.Match.{fitted, fittedO, matchAnswer, matchWords, matchLengths}

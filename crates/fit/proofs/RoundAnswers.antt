@@ -13,6 +13,7 @@ use Rattle.term.proofs.Laws.{never, padded-fits}
 use Rattle.fit.specs.Match.{bodyList, lengthList, Matched, refused, fitted, matchRule, matchAnswer, matchWords, matchLengths}
 use Rattle.fit.specs.Build as building
 use Rattle.fit.specs.Build.{Built, built, buildLeft, buildAnswer, buildWords}
+use Rattle.fit.proofs.Fitted.{fitted-room}
 use Rattle.fit.proofs.RoundTrip.{BuiltO, MatchedO, built-o, matched-o, built-then-matched, matched-then-built}
 
 fits : (n room : ℕ) → pick (leb n room) Done Short ≡ Done → n ≤ room
@@ -57,9 +58,7 @@ done-matched book number ws room e = go (matchRule book number ws) refl (matched
 
 matched-room : (m : Matched) (vars : ℕ) (b : ℕ → Row) (room : ℕ) → m ≡ fitted vars b → length (bodyList b 0 vars) ≤ room
     → (matchAnswer room m ≡ Done) × (matchWords room m ≡ bodyList b 0 vars ++ replicate (room - length (bodyList b 0 vars)) 0) × (matchLengths room m ≡ lengthList b 0 vars ++ replicate (16 - vars) 0)
-unfolding matchAnswer matchWords matchLengths
-matched-room m vars b room e h =
-    rw (e, le-leb (length (bodyList b 0 vars)) room h) (refl, padded-fits room (bodyList b 0 vars) h, refl)
+matched-room m vars b room e h = rw e (fitted-room room vars b h)
 
 -- ---- "Building a left side from given bodies, when the result is within the limits and there is room, and then matching it gives those bodies back"
 pub build-match : (book : List ℕ) (number : ℕ) (bodies lengths : List ℕ) → length lengths ≡ 16 → (room : ℕ) → buildAnswer room (buildLeft book number bodies lengths) ≡ Done

@@ -19,8 +19,8 @@ use Rattle.term.specs.Walk.{Stands}
 use Rattle.term.proofs.Laws.{never, words-node, words-nothing, width-node, width-nothing, formed-node, count-word, kind-word, ident-word, head-word, count-variable, count-pattern, ident-pattern, kind-symbol, kind-abstraction, kind-variable, body-stands, part-ends, words-same}
 use Rattle.book.specs.Rule.{idsOf, idBefore}
 use Rattle.book.proofs.Laws.{ids-nothing, ids-node}
-use Rattle.fit.specs.declared.walk.Both.{Both}
-use Rattle.fit.specs.declared.walk.Both.the-variants.{Done, Stuck}
+use Rattle.fit.specs.declared.fitting.Both.{Both}
+use Rattle.fit.specs.declared.fitting.Both.the-variants.{Done, Stuck}
 use Rattle.fit.specs.Left.{Left, end, hole, part, idsOr, leftOf}
 use Rattle.fit.specs.Fit.{Found, bodyThen, found, bodyIn, allSame}
 use Rattle.book.specs.Ids.{idBeforeO, variableIds, listIn}

@@ -15,8 +15,8 @@ use Rattle.term.specs.Check.{check, termLimits}
 use Rattle.term.specs.Renumber.{GoodList, toTerm}
 use Rattle.book.specs.Ids.{listIn}
 use Rattle.book.specs.Book.{Rule, checkBook, ruleAt}
-use Rattle.fit.specs.declared.walk.Both.{Both}
-use Rattle.fit.specs.declared.walk.Both.the-variants as both
+use Rattle.fit.specs.declared.fitting.Both.{Both}
+use Rattle.fit.specs.declared.fitting.Both.the-variants as both
 use Rattle.fit.specs.Left.{leftOf}
 use Rattle.fit.specs.Fit.{build}
 use Rattle.fit.specs.Match.{treeOf}

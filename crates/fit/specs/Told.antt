@@ -14,9 +14,9 @@ use Rattle.term.specs.declared.renumber.Step.{Step}
 use Rattle.term.specs.declared.renumber.Step.the-variants as step
 use Rattle.term.specs.Part.{bodyOf, sameWords}
 use Rattle.book.specs.Rule.{idsOf}
-use Rattle.fit.specs.declared.walk.First.{First}
-use Rattle.fit.specs.declared.walk.Both.{Both}
-use Rattle.fit.specs.declared.walk.Both.the-variants.{Done, Stuck}
+use Rattle.fit.specs.declared.fitting.First.{First}
+use Rattle.fit.specs.declared.fitting.Both.{Both}
+use Rattle.fit.specs.declared.fitting.Both.the-variants.{Done, Stuck}
 use Rattle.fit.specs.Left.{Left, leftOf, occurs}
 use Rattle.fit.specs.Fit.{Found, found, bodyIn, allSame, matching}
 use Rattle.fit.specs.Match.{fitted, fittedO, matchAnswer, matchWords, matchLengths}

@@ -3,7 +3,7 @@ ghost use mathlib.Core.Path.{_≡_};
 ghost use Prim.Native.Nat.{_≤_, _<_};
 ghost use lib.ListN.{length, replicate};
 ghost use Rattle.fit.specs.Told.{FirstWritten, BodiesTold};
-use crate::walk::first_of;
+use crate::fitting::first_of;
 use term::answer::Answer;
 use term::lent::clear;
 use term::part::Written;

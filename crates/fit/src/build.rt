@@ -4,7 +4,7 @@ ghost use Prim.Native.Nat.{_+_, _-_, _≤_};
 ghost use lib.ListN.{length};
 ghost use Rattle.fit.specs.Build.{startOf, goodLengths, checkBodies, buildLeft, buildAnswer, buildWords};
 ghost use Rattle.fit.specs.BuildWalk.{BodyBuilt, HoleBuilt, LeftBuilt, RuleBuilt};
-use crate::walk::Both;
+use crate::fitting::Both;
 use book::book::Found;
 use book::book::check_book;
 use book::book::find_rule;
@@ -34,7 +34,7 @@ const AT_LENGTHS: usize = 16;
 const LEVELS: u32 = 64;
 
 // How many words stand before the body of a variable.
-fn start_of(lengths: &[u32], x: usize) -> usize
+pub fn start_of(lengths: &[u32], x: usize) -> usize
     requires { ⌜ (x ≤ 16) × (length (now lengths) ≡ 16) ⌝ }
     ensures { λ r. ⌜ r ≡ startOf (now (lengths .entry)) x ⌝ }
 {

@@ -1,5 +1,5 @@
 // Fit of one rule: document 01's "Fit".
 mod bodies;
 pub mod build;
+mod fitting;
 pub mod rules;
-mod walk;

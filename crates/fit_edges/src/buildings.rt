@@ -1,14 +1,14 @@
 // Left sides built from bodies: what is given back, and the edges of building.
-use crate::books::BOOK_A;
-use crate::books::BOOK_B;
-use crate::words::C;
-use crate::words::L;
-use crate::words::LEAF;
-use crate::words::M;
-use crate::words::V;
 use crate::words::fill_rungs;
 use fit::build::build_left;
+use report::marked::BOOK_A;
+use report::marked::BOOK_B;
 use report::print::answered;
+use report::words::C;
+use report::words::L;
+use report::words::LEAF;
+use report::words::M;
+use report::words::V;
 
 // What lies in a lent word before the call.
 const BEFORE: u32 = 7;

@@ -1,15 +1,15 @@
 // Document 01's marked matches, rule by rule, and the edges of matching one rule.
-use crate::books::BOOK_A;
-use crate::books::BOOK_B;
-use crate::words::C;
-use crate::words::L;
-use crate::words::LEAF;
-use crate::words::M;
-use crate::words::V;
 use fit::rules::match_rule;
+use report::marked::BOOK_A;
+use report::marked::BOOK_B;
 use report::print::answered;
 use report::print::bytes;
 use report::print::words;
+use report::words::C;
+use report::words::L;
+use report::words::LEAF;
+use report::words::M;
+use report::words::V;
 
 // What lies in a lent word before the call.
 const BEFORE: u32 = 7;

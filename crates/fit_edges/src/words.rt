@@ -1,23 +1,7 @@
-// Words by their kind, and books of one rule or of many.
-use term::word::ABSTRACTION;
+// Books of one rule or of many, and terms.
+use report::words::C;
+use report::words::LEAF;
 use term::word::COUNT;
-use term::word::KIND;
-use term::word::PATTERN;
-use term::word::VARIABLE;
-
-// `l`
-pub const L: u32 = ABSTRACTION * KIND + COUNT;
-
-// `v0`, which no term has: `vN` is V + N.
-pub const V: u32 = VARIABLE * KIND;
-
-// `m0.0`: `mN.K` is M + K * C + N.
-pub const M: u32 = PATTERN * KIND;
-
-// `s0.1`: `sN.K` is K * C + N, and the leaf `s0.0` is LEAF.
-pub const C: u32 = COUNT;
-
-pub const LEAF: u32 = 0;
 
 // A rule that turns a leaf into a leaf takes so many words.
 const SMALL_RULE: usize = 5;

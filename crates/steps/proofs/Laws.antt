@@ -29,3 +29,6 @@ pub use Rattle.steps.proofs.Demand.{FitsAt, FirstFit, OneStep, Reaches,
 pub use Rattle.steps.proofs.Machine.{simplified-still, done-still, stepsMore, goes-on, result-term, simplify-again, simplify-on}
 -- What is said without trees settles it: a step has one outcome, and a run one end.
 pub use Rattle.steps.proofs.Settled.{write-same, same-written, same-spliced, one-outcome, one-run}
+-- Rewriting at the root and simplifying: each promise settles the answer and every lent word.
+pub use Rattle.steps.proofs.Roots.{RootPromised, root-settled}
+pub use Rattle.steps.proofs.Runs.{SimplifyPromised, simplify-settled}

@@ -6,6 +6,13 @@ mod Shaped
 mod Outside
 mod OnePass
 mod Children
+mod Depths
+mod RightTrees
+mod RightLaws
+mod Singles
+mod BodyLaws
+mod BodyTrees
+mod WholeRight
 mod Offsets
 mod Limits
 mod Steps
@@ -13,4 +20,10 @@ mod Demand
 mod Machine
 mod Settled
 mod Computed
+mod Copies
+mod Rewrites
+mod Roots
+mod Seeks
+mod Moves
+mod Runs
 pub mod Laws

@@ -155,6 +155,14 @@ module _ (b : ℕ → Row) (depth : ℕ) (ids : List ℕ) where
       ∙ ap (λ (k : ℕ). 0 + getD ids k 0) q ∙ omega arith))
       ∙ tree-before (variable (getD ids (i - 1) 0)) nothing (writtenIn b depth ids rest)
 
+  -- a row by its first tree and the rest
+  pub in-split : (h : Head) (kids rest : Row) → writtenIn b depth ids (node h kids rest) ≡ writtenIn b depth ids (node h kids nothing) ⧺ writtenIn b depth ids rest
+  in-split h kids rest =
+      let t = seen (writtenTree b (length ids) h (write b (inside h (length ids)) kids)) in
+      in-first h kids rest
+      ∙ ap (λ (r : Row). r ⧺ writtenIn b depth ids rest)
+      (sym (in-first h kids nothing ∙ ap (λ (r : Row). seen (writtenTree b (length ids) h (write b (inside h (length ids)) kids)) ⧺ r) in-nothing ∙ join-nothing t))
+
 -- ---- the three cases of an id in a body
 module _ (b : ℕ → Row) (depth : ℕ) (ids : List ℕ) (kids : Row) (e i : ℕ) where
   pub body-own-in : i ≤ e → variableIn b depth ids kids e i ≡ single i

@@ -4,3 +4,7 @@ pub mod Rewrite
 pub mod Offset
 pub mod Step
 pub mod Simplify
+pub mod Under
+pub mod RightWalk
+pub mod Area
+pub mod Operations

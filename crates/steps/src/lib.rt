@@ -1,1 +1,7 @@
-// Writing a right side, rewriting at the root, a step and simplifying: document 01's "Right sides and simplifying". Its definitions and theorems are in specs/ and proofs/; the operations are not here yet.
+// Writing a right side, rewriting at the root, a step and simplifying: document 01's "Right sides and simplifying".
+mod area;
+pub mod rewrite;
+mod right;
+mod rules;
+pub mod simplify;
+mod under;

@@ -14,7 +14,7 @@ pub use Rattle.term.proofs.Rows.{Reads, read-words, words-read, words-u
 -- A list of words is good just where it is one tree within the limits.
 pub use Rattle.term.proofs.Trees.{tree-good, good-tree}
 -- A part of a term is a term: every offset begins one, and it ends where its counts say.
-pub use Rattle.term.proofs.Parts.{part-begins, stands-term, part-ends, past-words}
+pub use Rattle.term.proofs.Parts.{part-begins, stands-term, part-ends, past-none, past-words, passed-first}
 pub use Rattle.term.proofs.Answers.{part-stands, part-is, term-part}
 -- Lists: the test says what it tests; as many ids as d are all of them.
 pub use Rattle.term.proofs.Lists.{suffix, good-true, true-good, at-most, all-there, position-is, position-at, listed-range}
@@ -44,3 +44,4 @@ pub use Rattle.term.proofs.Settled.{settled, settled-both, settled-thre
 -- Renumbering, head by head; every variable of a row, node by node.
 pub use Rattle.term.proofs.Renumbers.{EveryHead}
 pub use Rattle.term.proofs.Heads.{renumber-symbol, renumber-abstraction, renumber-variable, renumber-pattern, inside-variable, variable-id, id-variable, every-parts}
+pub use Rattle.term.proofs.Above.{word-variable, word-pattern, pattern-table, inside-next, listed-more, past-step, part-past, part-short, same-none, same-more}

@@ -14,6 +14,7 @@ mod Answers
 mod Leavings
 mod Imaged
 mod Heads
+mod Above
 mod Clauses
 mod Computed
 mod Settled

@@ -7,7 +7,8 @@ use Rattle.term.specs.Word.{Head}
 use Rattle.term.specs.Row.{Row, nothing, node}
 use Rattle.term.specs.Renumber.{inside}
 use Rattle.fit.specs.Constraint.{childrenOf, bodyHere}
-use Rattle.tree.specs.Tree.{LeafVariable}
+use lib.ListN.{length}
+use Rattle.tree.specs.Tree.{LeafVariable, countsOf}
 use Rattle.tree.specs.Find.{PartAt, partOf, markedPart, childParts, insideOf, enterPart, bodyFor, bodyOr, leafBody}
 
 pub part-first : (p : PartAt) (ps : List PartAt) → partOf 0 (p ∷ ps) ≡ p
@@ -57,3 +58,12 @@ leaf-first ps v vs = refl
 pub leaf-later : (ps : List PartAt) (v : LeafVariable) (vs : List LeafVariable) (x : ℕ) → leafBody ps (v ∷ vs) (suc x) ≡ leafBody ps vs x
 unfolding leafBody
 leaf-later ps v vs x = refl
+
+-- ---- how many parameters each variable of a Leaf has
+pub counts-none : countsOf [] ≡ []
+unfolding countsOf
+counts-none = refl
+
+pub counts-first : (v : LeafVariable) (vs : List LeafVariable) → countsOf (v ∷ vs) ≡ length (v .list) ∷ countsOf vs
+unfolding countsOf
+counts-first v vs = refl

@@ -81,7 +81,7 @@ tables-without h (g ∷ gs) a = go (eqb (word h) (word g)) (tables-without h gs 
     go true r = r
     go false r = (a .0, r)
 
-tables-add : (row : RuleRow) (p : Place) → Full (row .left) → (o : Option Head) → headAt (row .left) p ≡ o → (hs : List Head) → InTables hs → InTables (addHead o hs)
+pub tables-add : (row : RuleRow) (p : Place) → Full (row .left) → (o : Option Head) → headAt (row .left) p ≡ o → (hs : List Head) → InTables hs → InTables (addHead o hs)
 tables-add row p f none e hs a = a
 tables-add row p f (some h) e hs a =
     let x = head-headed (row .left) p h e in

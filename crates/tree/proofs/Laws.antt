@@ -13,6 +13,10 @@ pub use Rattle.tree.proofs.Ways.{RowFacts, AllFacts, tree-walks, Counts
 -- Each uncovered place is another part of the term.
 pub use Rattle.tree.proofs.Totals.{total, length-total, total-entered, total-root}
 -- Uncovered places: the clauses of their definitions.
-pub use Rattle.tree.proofs.Clauses.{part-first, part-later, marked-none, marked-first, marked-later, child-parts-none, child-parts-more, inside-of, enter-is, body-for-is, leaf-first, leaf-later}
+pub use Rattle.tree.proofs.Clauses.{part-first, part-later, marked-none, marked-first, marked-later, child-parts-none, child-parts-more, inside-of, enter-is, body-for-is, leaf-first, leaf-later, counts-none, counts-first}
 -- Each uncovered part of a term is one term, and a sound Leaf gives its variables bodies.
 pub use Rattle.tree.proofs.TermParts.{part-root, AllTerms, terms-root, terms-entered, leaf-terms, length-counts}
+-- Where compiling is done, the output is the tree of an accepted book and then zeros.
+pub use Rattle.tree.proofs.CompiledDone.{TreeMade, done-made}
+-- The promise of compiling settles the answer and every lent word.
+pub use Rattle.tree.proofs.Settled.{CompilePromised, compile-settled}

@@ -76,7 +76,7 @@ mutual
       tests-length (at + 6 + length ys + length zs) ys zs ifYes ifNo
       (length-layout (at + 6 + length ys + length zs) ifYes) (length-layout (at + 6 + length ys + length zs + long ifYes) ifNo)
 
-  length-cases : (at : ℕ) (cs : Cases) → length (layoutCases at cs) ≡ longCases cs
+  pub length-cases : (at : ℕ) (cs : Cases) → length (layoutCases at cs) ≡ longCases cs
   length-cases at NoCase = refl
   length-cases at (Case h x cs) = case-length at x cs (length-layout at x) (length-cases (at + long x) cs)
 

@@ -47,7 +47,7 @@ without-kept c path (row ∷ rows) = rw (without-kept c path rows) (go (has c (c
     go false = refl
 
 -- ---- striking
-struck-free : (p : ℕ → Bool) (m : ℕ) (before after : List ℕ) → Changed (struckRows p m) before after → (m ≡ 0 → ⊥) → (r : ℕ) → r < 64 → isFree after r ≡ isFree before r && not (p r)
+pub struck-free : (p : ℕ → Bool) (m : ℕ) (before after : List ℕ) → Changed (struckRows p m) before after → (m ≡ 0 → ⊥) → (r : ℕ) → r < 64 → isFree after r ≡ isFree before r && not (p r)
 unfolding Changed
 struck-free p m before after c n r h = rw (c r, lt-ltb r 64 h) (go (eqb (getD before r 0) 0) refl (p r))
   where

@@ -51,27 +51,27 @@ blank-none fixed nums (suc more) k o l a b = go (decLe (suc k) o) (λ q. blank-n
     go (yes q) r = r q
     go (no q) r = let z : o ≡ k = omega arith in rw z (l .1)
 
-left-hole : (fixed nums : List ℕ) (us : List Uncovered) (k : ℕ) (p : Place) (i d x : ℕ) (ys : List ℕ) (rest : Left) → LeftAt fixed nums us k p i d (hole x ys rest)
+pub left-hole : (fixed nums : List ℕ) (us : List Uncovered) (k : ℕ) (p : Place) (i d x : ℕ) (ys : List ℕ) (rest : Left) → LeftAt fixed nums us k p i d (hole x ys rest)
     → (getD fixed k 0 ≡ word (pattern x (length ys))) × (getD fixed (4096 + k) 0 ≡ d) × (getD nums k 0 ≡ numberedAs (i ∷ p) us)
     × ListAt fixed nums (suc k) ys × LeftAt fixed nums us (k + 1 + length ys) p (suc i) d rest
 unfolding LeftAt
 left-hole fixed nums us k p i d x ys rest l = l
 
-left-part : (fixed nums : List ℕ) (us : List Uncovered) (k : ℕ) (p : Place) (i d : ℕ) (h : Head) (kids rest : Left) → LeftAt fixed nums us k p i d (part h kids rest)
+pub left-part : (fixed nums : List ℕ) (us : List Uncovered) (k : ℕ) (p : Place) (i d : ℕ) (h : Head) (kids rest : Left) → LeftAt fixed nums us k p i d (part h kids rest)
     → (getD fixed k 0 ≡ word h) × (getD nums k 0 ≡ numberedAs (i ∷ p) us)
     × LeftAt fixed nums us (suc k) (i ∷ p) 0 (inside h d) kids × LeftAt fixed nums us (k + 1 + spread kids) p (suc i) d rest
 unfolding LeftAt
 left-part fixed nums us k p i d h kids rest l = l
 
-spread-end : spread end ≡ 0
+pub spread-end : spread end ≡ 0
 unfolding spread
 spread-end = refl
 
-spread-hole : (x : ℕ) (ys : List ℕ) (rest : Left) → spread (hole x ys rest) ≡ 1 + length ys + spread rest
+pub spread-hole : (x : ℕ) (ys : List ℕ) (rest : Left) → spread (hole x ys rest) ≡ 1 + length ys + spread rest
 unfolding spread
 spread-hole x ys rest = refl
 
-spread-part : (h : Head) (kids rest : Left) → spread (part h kids rest) ≡ 1 + spread kids + spread rest
+pub spread-part : (h : Head) (kids rest : Left) → spread (part h kids rest) ≡ 1 + spread kids + spread rest
 unfolding spread
 spread-part h kids rest = refl
 

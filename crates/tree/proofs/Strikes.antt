@@ -132,7 +132,7 @@ module _ (book fixed nums marks : List ℕ) (count : ℕ) (path : OnPath) (s : S
       head-is-word fixed nums (path .uncovered) r n (leftIn rule) (placeNumbered n (path .uncovered)) (number-only book fixed nums marks count path s n) (number-own book fixed nums marks count path s n known)
       (t .here) (t .short) (t .blank) h (low-low (subAt (leftIn rule) (placeNumbered n (path .uncovered))) (low-at (leftIn rule) (placeNumbered n (path .uncovered)) (t .low)))
 
-  head-words : (r : ℕ) (rule : Rule) → r < 64 → isFree marks r ≡ true → ruleAt book r ≡ some rule → (g : Head) → headAt (leftIn rule) (placeNumbered n (path .uncovered)) ≡ some g → word g < 33554432
+  pub head-words : (r : ℕ) (rule : Rule) → r < 64 → isFree marks r ≡ true → ruleAt book r ≡ some rule → (g : Head) → headAt (leftIn rule) (placeNumbered n (path .uncovered)) ≡ some g → word g < 33554432
   head-words r rule h f e g q =
       head-low (subAt (leftIn rule) (placeNumbered n (path .uncovered)))
       (low-low (subAt (leftIn rule) (placeNumbered n (path .uncovered))) (low-at (leftIn rule) (placeNumbered n (path .uncovered)) (s .rows r rule h f e .low))) g (sym (head-sub (leftIn rule) (placeNumbered n (path .uncovered))) ∙ q)

@@ -8,3 +8,5 @@ pub mod Compiled
 pub mod Tables
 pub mod Covered
 pub mod Stands
+pub mod Loaded
+pub mod NodeTold

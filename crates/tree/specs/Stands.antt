@@ -4,6 +4,7 @@ use mathlib.Core.Path.{_≡_}
 use mathlib.Core.Bool.{Bool, true, false, _&&_, not}
 use mathlib.Core.List.{List, [], _∷_, _++_}
 use mathlib.Core.Option.{Option, none, some}
+use lib.Dec.{eqb}
 use lib.ListN.{length, getD}
 use lib.Seq.{sets}
 use Rattle.term.specs.declared.renumber.Step.{Step}
@@ -81,6 +82,10 @@ occurrencesAt k p i d end = []
 occurrencesAt k p i d (hole x ys rest) = (k, record { var = x; place = i ∷ p; depth = d; list = ys }) ∷ occurrencesAt (k + 1 + length ys) p (suc i) d rest
 occurrencesAt k p i d (part h kids rest) = occurrencesAt (suc k) (i ∷ p) 0 (inside h d) kids ++ occurrencesAt (k + 1 + spread kids) p (suc i) d rest
 
+-- closedness is omitted where k = d, and then its mark says nothing
+abbrev pub ClosedStruck : List ℕ → List Constraint → ℕ → Occurrence → Type 0
+ClosedStruck marks held k o = eqb (length (o .list)) (o .depth) ≡ false → isFree marks (4160 + k) ≡ not (has (closedAt o) held)
+
 abbrev pub SameStruck : List ℕ → List Constraint → ℕ → Option Occurrence → Occurrence → Type 0
 SameStruck marks held k none o = Unit {0}
 SameStruck marks held k (some f) o = isFree marks (8256 + k) ≡ not (has (sameAt f o) held)
@@ -89,7 +94,7 @@ SameStruck marks held k (some f) o = isFree marks (8256 + k) ≡ not (has (sameA
 unfoldable pub StruckAt : List ℕ → List Constraint → List Occurrence → List (ℕ × Occurrence) → Type 0
 StruckAt marks held earlier [] = Unit {0}
 StruckAt marks held earlier (s ∷ ss) =
-    (isFree marks (4160 + s .0) ≡ not (has (closedAt (s .1)) held)) × SameStruck marks held (s .0) (firstOf (s .1 .var) earlier) (s .1)
+    ClosedStruck marks held (s .0) (s .1) × SameStruck marks held (s .0) (firstOf (s .1 .var) earlier) (s .1)
     × StruckAt marks held (earlier ++ (s .1 ∷ [])) ss
 
 -- ---- a row, and the tables
@@ -130,3 +135,18 @@ TreeTold book fixed nums marks limit count at out done (Done a) =
     → (a ≡ at + long (compile path (rowsLeft book marks 0 64))) × (done ≡ sets out at (layout at (compile path (rowsLeft book marks 0 64))))
 TreeTold book fixed nums marks limit count at out done Stuck =
     (path : OnPath) → Stands book fixed nums marks count path → limit < at + long (compile path (rowsLeft book marks 0 64))
+
+-- ---- the cycle of calls that makes a tree
+-- what it needs: tables of their sizes that stand for some path, and marks older than those of a node at this address
+pub record TreeReady (fixed nums marks : List ℕ) (limit count at : ℕ) : Type 0 where
+  pub sizes : (length fixed ≡ 8256) × (length nums ≡ 4096) × (length marks ≡ 12352)
+  pub within : (limit ≤ 16384) × (at ≤ limit + 5000)
+  pub older : (k : ℕ) → getD marks k 0 < at + 2
+  pub book : List ℕ
+  pub path : OnPath
+  pub stands : Stands book fixed nums marks count path
+
+-- the tables are left as they were found, and the offset after the tree is past its address by no more than a node of a compiled tree takes
+abbrev pub TreeKept : List ℕ → List ℕ → ℕ → ℕ → List ℕ → List ℕ → Step → Type 0
+TreeKept nums marks limit at nums-after marks-after (Done a) = (nums-after ≡ nums) × (marks-after ≡ marks) × (at ≤ a) × (a ≤ limit + 5000)
+TreeKept nums marks limit at nums-after marks-after Stuck = Unit {0}

@@ -29,27 +29,27 @@ module _ (table term : List ℕ) (s : Walk) (t : WalkTold table term s) where
   unfolding WalkTold Standing
   ended-holds = t .0 .0
 
-  ended-none : s .stands ≡ 1 → walkedHere table term ≡ NoneFits
+  pub ended-none : s .stands ≡ 1 → (fits : ℕ → List ℕ → Bool) → walkFrom fits table 0 (rootPart (partFrom term 0)) ≡ NoneFits
   unfolding WalkTold Standing
-  ended-none z = go (s .stands) z (t .0 .1)
+  ended-none z fits = go (s .stands) z (t .0 .1)
     where
-      go : (n : ℕ) → n ≡ 1 → Stood table term (λ fits. walkFrom fits table 0 (rootPart (partFrom term 0))) s n → walkedHere table term ≡ NoneFits
+      go : (n : ℕ) → n ≡ 1 → Stood table term (λ fits. walkFrom fits table 0 (rootPart (partFrom term 0))) s n → walkFrom fits table 0 (rootPart (partFrom term 0)) ≡ NoneFits
       go zero z e = absurd (omega arith)
-      go (suc zero) z e = e noBook
+      go (suc zero) z e = e fits
       go (suc (suc n)) z e = absurd (omega arith)
 
-  ended-damaged : (s .stands ≡ 1 → ⊥) → (s .stands ≡ 2 → ⊥) → walkedHere table term ≡ DamagedAt (s .at)
+  pub ended-damaged : (s .stands ≡ 1 → ⊥) → (s .stands ≡ 2 → ⊥) → (fits : ℕ → List ℕ → Bool) → walkFrom fits table 0 (rootPart (partFrom term 0)) ≡ DamagedAt (s .at)
   unfolding WalkTold Standing
-  ended-damaged a b = go (s .stands) (t .1) a b (t .0 .1)
+  ended-damaged a b fits = go (s .stands) (t .1) a b (t .0 .1)
     where
-      go : (n : ℕ) → (n ≡ 0 → ⊥) → (n ≡ 1 → ⊥) → (n ≡ 2 → ⊥) → Stood table term (λ fits. walkFrom fits table 0 (rootPart (partFrom term 0))) s n → walkedHere table term ≡ DamagedAt (s .at)
+      go : (n : ℕ) → (n ≡ 0 → ⊥) → (n ≡ 1 → ⊥) → (n ≡ 2 → ⊥) → Stood table term (λ fits. walkFrom fits table 0 (rootPart (partFrom term 0))) s n → walkFrom fits table 0 (rootPart (partFrom term 0)) ≡ DamagedAt (s .at)
       go zero x y z e = absurd (x refl)
       go (suc zero) x y z e = absurd (y refl)
       go (suc (suc zero)) x y z e = absurd (z refl)
-      go (suc (suc (suc n))) x y z e = e noBook
+      go (suc (suc (suc n))) x y z e = e fits
 
   module _ (z : s .stands ≡ 2) where
-    ended-leaf : LeafFound table term (λ fits. walkFrom fits table 0 (rootPart (partFrom term 0))) s
+    pub ended-leaf : LeafFound table term (λ fits. walkFrom fits table 0 (rootPart (partFrom term 0))) s
     unfolding WalkTold Standing
     ended-leaf = go (s .stands) z (t .0 .1)
       where
@@ -71,11 +71,11 @@ module _ (table term : List ℕ) (s : Walk) (t : WalkTold table term s) where
     module _ (b : bodies ≡ replicate room 0) (l : lengths ≡ replicate 16 0) where
       pub match-none : s .stands ≡ 1 → (r : TreeMatch) → r .answer ≡ answer.NoFit → r .rule ≡ 0 → WalkedTold room (walkedHere table term) r bodies lengths
       unfolding WalkedTold
-      match-none z r a u = let q = refused-leaves room answer.NoFit bodies lengths b l in rw (ended-none z) (a ∙ q .0, q .1, q .2, u)
+      match-none z r a u = let q = refused-leaves room answer.NoFit bodies lengths b l in rw (ended-none z noBook) (a ∙ q .0, q .1, q .2, u)
 
       pub match-damaged : (s .stands ≡ 1 → ⊥) → (s .stands ≡ 2 → ⊥) → (r : TreeMatch) → r .answer ≡ answer.Damaged (s .at) → r .rule ≡ 0 → WalkedTold room (walkedHere table term) r bodies lengths
       unfolding WalkedTold
-      match-damaged y z r a u = let q = refused-leaves room (answer.Damaged (s .at)) bodies lengths b l in rw (ended-damaged y z) (a ∙ q .0, q .1, q .2, u)
+      match-damaged y z r a u = let q = refused-leaves room (answer.Damaged (s .at)) bodies lengths b l in rw (ended-damaged y z noBook) (a ∙ q .0, q .1, q .2, u)
 
     pub match-short : s .stands ≡ 2 → (fits : Bool) → fits ≡ false → LeafWritten table term s room bodies lengths fits → (r : TreeMatch) → r .answer ≡ answer.Short → r .rule ≡ 0 → WalkedTold room (walkedHere table term) r bodies lengths
     unfolding WalkedTold LeafWritten

@@ -88,18 +88,26 @@ book-given : (book : List ℕ) → FitsBook book (bookFits book)
 unfolding bookFits
 book-given book number rule e ks n c = rw (e, eq-eqb (length ks) (rule .vars) n) (counts-fit (rule .left) 0 ks c)
 
--- ---- the layout of an accepted book's tree
-module _ (book : List ℕ) (accepted : checkBook book ≡ Good) (short : length (layout 0 (bookTree book)) ≤ 16384) (t : Row) (formed : Formed t) (one : width t ≡ 1) where
-  laid-out : (fits : ℕ → List ℕ → Bool) → FitsBook book fits → walk fits (layout 0 (bookTree book)) t ≡ walkedOf (varsIn book) (lowest book 0 (getD book 0 0) t)
+-- ---- a table that begins with an accepted book's tree, whatever follows it
+module _ (book : List ℕ) (accepted : checkBook book ≡ Good) (t : Row) (formed : Formed t) (one : width t ≡ 1) where
+  begun : (fits : ℕ → List ℕ → Bool) → FitsBook book fits → (table : List ℕ) → length table ≤ 16384 → Lies table 0 (bookTree book) → walk fits table t ≡ walkedOf (varsIn book) (lowest book 0 (getD book 0 0) t)
   unfolding walk
-  laid-out fits ok =
-      rw (le-leb (length (layout 0 (bookTree book))) 16384 short)
-      (walk-laid (varsIn book) fits (layout 0 (bookTree book)) (bookTree book) (rootPart t) (lowest book 0 (getD book 0 0) t) (book-walks book accepted fits ok t formed one) 0 (whole-lies (bookTree book)))
+  begun fits ok table short l =
+      rw (le-leb (length table) 16384 short)
+      (walk-laid (varsIn book) fits table (bookTree book) (rootPart t) (lowest book 0 (getD book 0 0) t) (book-walks book accepted fits ok t formed one) 0 l)
 
   -- with no book given
-  pub walked-alone : walk noBook (layout 0 (bookTree book)) t ≡ walkedOf (varsIn book) (lowest book 0 (getD book 0 0) t)
-  walked-alone = laid-out noBook (none-given book)
+  pub begun-alone : (table : List ℕ) → length table ≤ 16384 → Lies table 0 (bookTree book) → walk noBook table t ≡ walkedOf (varsIn book) (lowest book 0 (getD book 0 0) t)
+  begun-alone = begun noBook (none-given book)
 
   -- with the book given too
+  pub begun-with : (table : List ℕ) → length table ≤ 16384 → Lies table 0 (bookTree book) → walk (bookFits book) table t ≡ walkedOf (varsIn book) (lowest book 0 (getD book 0 0) t)
+  begun-with = begun (bookFits book) (book-given book)
+
+-- the layout alone
+module _ (book : List ℕ) (accepted : checkBook book ≡ Good) (short : length (layout 0 (bookTree book)) ≤ 16384) (t : Row) (formed : Formed t) (one : width t ≡ 1) where
+  pub walked-alone : walk noBook (layout 0 (bookTree book)) t ≡ walkedOf (varsIn book) (lowest book 0 (getD book 0 0) t)
+  walked-alone = begun-alone book accepted t formed one (layout 0 (bookTree book)) short (whole-lies (bookTree book))
+
   pub walked-with : walk (bookFits book) (layout 0 (bookTree book)) t ≡ walkedOf (varsIn book) (lowest book 0 (getD book 0 0) t)
-  walked-with = laid-out (bookFits book) (book-given book)
+  walked-with = begun-with book accepted t formed one (layout 0 (bookTree book)) short (whole-lies (bookTree book))

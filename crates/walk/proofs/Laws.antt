@@ -5,9 +5,11 @@ pub use Rattle.walk.proofs.Steps.{Later, later-next, walk-is}
 -- No more places are uncovered than the term has words.
 pub use Rattle.walk.proofs.Places.{Keeps, keeps-next}
 -- Over a layout the walk is the walk of the tree and never damaged; over the layout of an accepted book's tree it finds the lowest rule that fits.
-pub use Rattle.walk.proofs.Laid.{walkedOf, walk-laid, walked-alone, walked-with}
+pub use Rattle.walk.proofs.Laid.{walkedOf, walk-laid, begun-alone, begun-with, walked-alone, walked-with}
 -- Demand 3: matching by the compiled tree finds the lowest rule that fits, with its bodies.
 pub use Rattle.walk.proofs.Demand.{best, tree-match, tree-rule, best-is}
+-- The same of what compiling and matching answer and leave, said without trees.
+pub use Rattle.walk.proofs.Demand3.{tree-finds}
 -- The promise of matching by the tree settles its answer, its rule and every lent word.
 pub use Rattle.walk.proofs.Answers.{Promised, match-settled}
 -- Each offset of a term begins a part, also in the words from an offset on: what the walk asks of its words.
@@ -16,3 +18,11 @@ pub use Rattle.walk.proofs.Answers.{tail-parted}
 pub use Rattle.walk.proofs.Sound.{FoundSound, walk-sound, fits-rule}
 -- Where the root has no case for the term's word, and its default is a Fail, no rule fits.
 pub use Rattle.walk.proofs.Skips.{no-case}
+-- The part that such words begin with is one term, and 16 bodies have room in 65,536 words: what a walk with a book rests on.
+pub use Rattle.walk.proofs.BookEnds.{parted-body, sixteen-room}
+-- Where a term stands, it is the part from there.
+pub use Rattle.walk.proofs.Uncovered.{from-stands}
+-- What the promise of the walk with a book says, by its answer.
+pub use Rattle.walk.proofs.BookAnswers.{walked-none, walked-damaged, walked-rule}
+-- The promise of the walk with a book settles its answer and every lent word.
+pub use Rattle.walk.proofs.BookEnds.{book-settled}

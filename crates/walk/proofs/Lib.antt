@@ -13,7 +13,11 @@ mod Steps
 mod Places
 mod Sound
 mod Skips
+mod BookLeaf
+mod BookEnds
+mod BookAnswers
 mod Laid
 mod Demand
+mod Demand3
 mod Computed
 pub mod Laws

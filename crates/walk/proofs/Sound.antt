@@ -47,7 +47,7 @@ unfolding soundVariables
 sound-all ps [] e = tt
 sound-all ps (v ∷ vs) e = (sound-one ps v (and-left (soundVariable ps v) (soundVariables ps vs) e), sound-all ps vs (and-right (soundVariable ps v) (soundVariables ps vs) e))
 
-abbrev AsMany : ℕ → Option (List LeafVariable) → Type 0
+abbrev pub AsMany : ℕ → Option (List LeafVariable) → Type 0
 AsMany n none = Unit {0}
 AsMany n (some vs) = length vs ≡ n
 
@@ -59,7 +59,7 @@ pick-many : (n : ℕ) (b : Bool) (o : Option (List LeafVariable)) → AsMany n o
 pick-many n true o a = a
 pick-many n false o a = tt
 
-as-many : (n : ℕ) (ws : List ℕ) → AsMany n (variablesIn n ws)
+pub as-many : (n : ℕ) (ws : List ℕ) → AsMany n (variablesIn n ws)
 unfolding variablesIn
 as-many zero ws = refl
 as-many (suc n) [] = tt

@@ -15,10 +15,10 @@ use term::part::write_body;
 use term::renumber::Step;
 
 // Where the k of a variable is.
-const COUNT: usize = 1;
+pub const COUNT: usize = 1;
 
 // A variable has so many words before its list.
-const VARIABLE: usize = 2;
+pub const VARIABLE: usize = 2;
 
 // Whether the variables from an address on are sound: each place is uncovered, each list is one for it, and each part has a body.
 pub fn sound_leaf(walk: Walk, tree: &[u32], term: &[u32], from: usize, n: u32) -> bool

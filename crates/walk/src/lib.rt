@@ -3,3 +3,4 @@ pub mod by_tree;
 mod leaf;
 mod state;
 mod taken;
+pub mod with_book;

@@ -27,11 +27,11 @@ pub const RULE: u8 = 2;
 pub const DAMAGED: u8 = 3;
 
 // The tags of the nodes.
-const FAIL: u32 = 0;
+pub const FAIL: u32 = 0;
 
 const LEAF: u32 = 1;
 
-const SWITCH: u32 = 2;
+pub const SWITCH: u32 = 2;
 
 const CLOSED: u32 = 3;
 
@@ -55,7 +55,7 @@ pub const NODE: usize = 3;
 const SAME_NODE: usize = 4;
 
 // A case has a head word and an address.
-const CASE: usize = 2;
+pub const CASE: usize = 2;
 
 // For each uncovered place the offset of its part in the term, the abstractions passed, and whether it was entered.
 pub struct Walk {

@@ -7,7 +7,7 @@ use mathlib.Core.List.{List}
 use Prim.Native.Nat.{ℕ, _<_, _+_, _*_}
 use lib.ListN.{length, getD}
 use Rattle.term.proofs.Laws.{suffix, inside-small}
-use Rattle.fit.specs.declared.walk.Both.{Both}
+use Rattle.fit.specs.declared.fitting.Both.{Both}
 use Rattle.fit.specs.BuildWalk.{LeftBuilt}
 use Rattle.fit.proofs.BuildRow.{build-none, build-deep, build-ended, build-stuck, build-more}
 use Rattle.fit.proofs.BuildTree.{build-full, build-inner, build-body, build-no-body}

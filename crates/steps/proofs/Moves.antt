@@ -1,0 +1,183 @@
+-- A step in the work area is a step of the definition: the words spliced are those of the term with the part replaced, and checking them judges its limits.
+use mathlib.Core.Path.{_≡_, refl, sym, ap, _∙_}
+use mathlib.Core.Bool.{Bool, true, false}
+use mathlib.Core.List.{List, _++_}
+use Prim.Native.Nat.{ℕ, _+_, _≤_, _<_}
+use native.Mathlib.Omega.{arith}
+use lib.ListN.{length, take, drop, length-append}
+use Rattle.term.specs.declared.check.Checked.the-variants.{Good, Bad}
+use Rattle.term.specs.declared.answer.Answer.{Answer}
+use Rattle.term.specs.declared.answer.Answer.the-variants as answer
+use Rattle.term.specs.declared.renumber.Step.the-variants.{Done, Stuck}
+use Rattle.term.specs.Row.{Row, words}
+use Rattle.term.specs.Check.{IsTerm, check, termLimits}
+use Rattle.term.specs.Part.{partEnd}
+use Rattle.term.proofs.Laws.{never, good-tree}
+use Rattle.book.specs.Book.{checkBook}
+use Rattle.fit.specs.Lowest.{Fitting}
+use Rattle.fit.specs.Match.{treeOf}
+use Rattle.fit.specs.Build.{withinLimits}
+use Rattle.fit.proofs.Laws.{within-limits}
+use Rattle.walk.specs.Walk.{walk, bookFits}
+use Rattle.steps.specs.Rewrite.{rewritten}
+use Rattle.steps.specs.Offset.{partAt, spliced}
+use Rattle.steps.specs.Area.{splicedWords, SpliceTold}
+use Rattle.steps.specs.Step.{Sought, Nowhere, FoundAt, Broken, lowestOffset, Rests, Refused, wholeWithin, stepFound, step}
+use Rattle.steps.specs.declared.simplify.Lowest.the-variants as lowest
+use Rattle.steps.specs.declared.simplify.Moved.{Moved}
+use Rattle.steps.specs.declared.simplify.Moved.the-variants as moved
+use Rattle.steps.specs.Operations.{LowestTold, ReplaceTold, MoveTold}
+use Rattle.steps.proofs.Shaped.{formed-shaped, limits-within}
+use Rattle.steps.proofs.Offsets.{spliced-words, part-end, splice-keeps}
+use Rattle.steps.proofs.Limits.{splice-nests, within-part, check-within, within-check}
+use Rattle.steps.proofs.Steps.{SeekIs, lowest-offset-is, part-term, Wrote, found-writes}
+use Rattle.steps.proofs.Seeks.{tree-body, tree-words}
+
+-- ---- a part replaced
+module _ (ws : List ℕ) (at : ℕ) (new area : List ℕ) where
+  abbrev whole : List ℕ
+  whole = splicedWords ws at new
+
+  pub replace-long : SpliceTold ws at new area Stuck → ReplaceTold (splicedWords ws at new) area (moved.Refused answer.Over)
+  unfolding SpliceTold
+  replace-long l = (refl, λ g. let i = good-tree termLimits (omega arith) whole g in omega (arith, l, i .short))
+
+  module _ (size : ℕ) (s : SpliceTold ws at new area (Done size)) where
+    pub replace-few : size ≤ 4096
+    unfolding SpliceTold
+    replace-few = s .1
+
+    pub replace-bad : (bad : ℕ) → check termLimits (take size area) ≡ Bad bad → ReplaceTold (splicedWords ws at new) area (moved.Refused answer.Over)
+    unfolding SpliceTold
+    replace-bad bad e = (refl, λ g. let z : check termLimits whole ≡ Bad bad = sym (ap (check termLimits) (s .2)) ∙ e in never (cc))
+
+    pub replace-good : check termLimits (take size area) ≡ Good → ReplaceTold (splicedWords ws at new) area (moved.To size)
+    unfolding SpliceTold
+    replace-good e = (sym (ap (check termLimits) (s .2)) ∙ e, s .1, s .2)
+
+-- ---- the term with the part replaced
+module _ (book : List ℕ) (accepted : checkBook book ≡ Good) (table ws : List ℕ) (i : IsTerm ws) where
+  abbrev t : Row
+  t = treeOf ws
+
+  abbrev sought : Sought
+  sought = lowestOffset book table (treeOf ws)
+
+  module _ (at : ℕ) (f : Fitting) (k : SeekIs (walk (bookFits book) table) (treeOf ws) 0 (length (words (treeOf ws))) (FoundAt at f)) where
+    abbrev u : Row
+    u = rewritten book f
+
+    abbrev v : Row
+    v = spliced (treeOf ws) at (rewritten book f)
+
+    inside : at < length (words t)
+    inside = k .1 .inside
+
+    writes : Wrote book accepted table u
+    writes = found-writes book accepted table (partAt t at) (part-term t (tree-body ws i) at inside) f (k .0) (k .1 .here)
+
+    words-are : splicedWords ws at (words u) ≡ words v
+    unfolding splicedWords
+    words-are =
+        let b = tree-body ws i in
+        let e : partEnd (drop at ws) ≡ length (words (partAt t at)) = rw (tree-words ws i) at (part-end t at inside (b .formed) (b .few) (b .low)) in
+        let s = rw (tree-words ws i) at (spliced-words t at inside u) in
+        rw e (sym s)
+
+    new-within : check termLimits (words v) ≡ Good → withinLimits u ≡ true → withinLimits v ≡ true
+    new-within g e =
+        let n = limits-within u (writes .shaped) e in
+        check-within v (splice-nests t at inside u .formed (tree-body ws i .formed) (n .0) (writes .one)) (splice-keeps t at inside u .wide (writes .one) ∙ tree-body ws i .one) g
+
+    new-over : (check termLimits (words v) ≡ Good → ⊥) → withinLimits v ≡ false
+    new-over n = go (withinLimits v) refl
+      where
+        go : (b : Bool) → withinLimits v ≡ b → withinLimits v ≡ false
+        go true e =
+            let s = splice-keeps t at inside u in
+            absurd (n (within-check v (s .shaped (formed-shaped t (tree-body ws i .formed)) (writes .shaped) (writes .one)) (s .wide (writes .one) ∙ tree-body ws i .one) (omega (arith, s .few, tree-body ws i .few, writes .few)) e))
+        go false e = e
+
+    part-short : length (words u) ≤ length (words v)
+    part-short =
+        let rest = drop (at + length (words (partAt t at))) (words t) in
+        omega (arith, ap length (spliced-words t at inside u), length-append (take at (words t)) (words u ++ rest), length-append (words u) rest)
+
+    pub found-over : withinLimits u ≡ false → withinLimits v ≡ false
+    found-over n = go (withinLimits v) refl
+      where
+        go : (b : Bool) → withinLimits v ≡ b → withinLimits v ≡ false
+        go true e =
+            let q = within-part t (tree-body ws i) at inside u (writes .one) (writes .shaped) e in
+            let m : withinLimits u ≡ true = within-limits u (q .0) (omega (arith, q .1)) (omega (arith, q .2, part-short)) in
+            never (cc)
+        go false e = e
+
+    pub found-inside : at < length ws
+    found-inside = rw (tree-words ws i) at inside
+
+    pub found-to : (n : ℕ) (new area : List ℕ) → withinLimits u ≡ true → take n new ≡ words u → (size : ℕ) → ReplaceTold (splicedWords ws at (take n new)) area (moved.To size)
+        → (withinLimits v ≡ true) × (size ≤ 4096) × (take size area ≡ words v)
+    found-to n new area e w size r =
+        let q = rw (w, words-are) at r in
+        (new-within (q .0) e, q .1, q .2)
+
+    pub found-refused : (n : ℕ) (new area : List ℕ) → take n new ≡ words u → (a : Answer) → ReplaceTold (splicedWords ws at (take n new)) area (moved.Refused a) → (withinLimits v ≡ false) × (a ≡ answer.Over)
+    found-refused n new area w a r =
+        let q = rw (w, words-are) at r in
+        (new-over (q .1), q .0)
+
+  -- ---- a step, by what was sought
+  module _ (new before area : List ℕ) where
+    pub move-rests : LowestTold book (lowestOffset book table (treeOf ws)) new lowest.Nowhere → area ≡ before → MoveTold (step book table (treeOf ws)) before area moved.Rests
+    unfolding step LowestTold MoveTold
+    move-rests l e = go sought l
+      where
+        go : (s : Sought) → LowestTold book s new lowest.Nowhere → MoveTold (stepFound book t s) before area moved.Rests
+        go Nowhere l = (refl, e)
+        go (FoundAt at f) l = absurd l
+        go (Broken address) l = let z : lowest.Nowhere ≡ lowest.Broken address = l in never (cc)
+
+    pub move-broken : (address : ℕ) → LowestTold book (lowestOffset book table (treeOf ws)) new (lowest.Broken address) → MoveTold (step book table (treeOf ws)) before area (moved.Refused (answer.Damaged address))
+    unfolding step LowestTold MoveTold
+    move-broken address l = go sought l
+      where
+        go : (s : Sought) → LowestTold book s new (lowest.Broken address) → MoveTold (stepFound book t s) before area (moved.Refused (answer.Damaged address))
+        go Nowhere l = let z : lowest.Broken address ≡ lowest.Nowhere = l in never (cc)
+        go (FoundAt at f) l = absurd l
+        go (Broken a) l = let z : lowest.Broken address ≡ lowest.Broken a = l in let y : address ≡ a = cc in ap (λ (n : ℕ). moved.Refused (answer.Damaged n)) y
+
+    pub move-over : LowestTold book (lowestOffset book table (treeOf ws)) new lowest.Over → MoveTold (step book table (treeOf ws)) before area (moved.Refused answer.Over)
+    unfolding step LowestTold MoveTold wholeWithin
+    move-over l = go sought (lowest-offset-is book table t) l
+      where
+        go : (s : Sought) → SeekIs (walk (bookFits book) table) t 0 (length (words t)) s → LowestTold book s new lowest.Over → MoveTold (stepFound book t s) before area (moved.Refused answer.Over)
+        go Nowhere k l = let z : lowest.Over ≡ lowest.Nowhere = l in never (cc)
+        go (FoundAt at f) k l = rw (found-over at f k l) refl
+        go (Broken a) k l = let z : lowest.Over ≡ lowest.Broken a = l in never (cc)
+
+    module _ (at n : ℕ) (l : LowestTold book (lowestOffset book table (treeOf ws)) new (lowest.At at n)) where
+      pub move-inside : (at < length ws) × (n ≤ 4096)
+      unfolding LowestTold
+      move-inside = go sought (lowest-offset-is book table t) l
+        where
+          go : (s : Sought) → SeekIs (walk (bookFits book) table) t 0 (length (words t)) s → LowestTold book s new (lowest.At at n) → (at < length ws) × (n ≤ 4096)
+          go Nowhere k l = let z : lowest.At at n ≡ lowest.Nowhere = l in never (cc)
+          go (FoundAt a f) k l = (rw (l .0) (found-inside a f k), l .3)
+          go (Broken a) k l = let z : lowest.At at n ≡ lowest.Broken a = l in never (cc)
+
+      pub move-replaced : (r : Moved) → ReplaceTold (splicedWords ws at (take n new)) area r → MoveTold (step book table (treeOf ws)) before area r
+      unfolding step LowestTold MoveTold wholeWithin
+      move-replaced r p = go sought (lowest-offset-is book table t) l r p
+        where
+          go : (s : Sought) → SeekIs (walk (bookFits book) table) t 0 (length (words t)) s → LowestTold book s new (lowest.At at n)
+              → (r : Moved) → ReplaceTold (splicedWords ws at (take n new)) area r → MoveTold (stepFound book t s) before area r
+          go Nowhere k l r p = let z : lowest.At at n ≡ lowest.Nowhere = l in never (cc)
+          go (FoundAt a f) k l moved.Rests p = absurd p
+          go (FoundAt a f) k l (moved.To size) p =
+              let q = found-to a f k n new area (l .1) (l .4) size (rw (l .0) at p) in
+              rw (q .0) (size, refl, q .1, q .2)
+          go (FoundAt a f) k l (moved.Refused b) p =
+              let q = found-refused a f k n new area (l .4) b (rw (l .0) at p) in
+              rw (q .0) (ap moved.Refused (q .1))
+          go (Broken a) k l r p = let z : lowest.At at n ≡ lowest.Broken a = l in never (cc)

@@ -1,0 +1,172 @@
+-- A part rewritten: the walk with the book gives a rule of the book and its bodies one after the other, so its right side is written from them.
+use mathlib.Core.Path.{_≡_, refl, sym, ap, _∙_}
+use mathlib.Core.Bool.{true, _&&_}
+use mathlib.Core.List.{List, _++_, append-assoc}
+use mathlib.Core.Option.{none, some}
+use Prim.Native.Nat.{ℕ, zero, suc, _+_, _-_, _≤_, _<_}
+use native.Mathlib.Omega.{arith}
+use lib.Dec.{leb}
+use lib.ListN.{length, getD, take, drop, replicate, length-append}
+use lib.Seq.{take-at, take-append-seam, drop-append-add, sets-eq}
+use borrow.Author.Tests.{leb-true}
+use Rattle.term.specs.declared.check.Checked.the-variants.{Good}
+use Rattle.term.specs.declared.renumber.Step.{Step}
+use Rattle.term.specs.declared.renumber.Step.the-variants as step
+use Rattle.term.specs.Row.{Row, words, nesting}
+use Rattle.term.proofs.Laws.{never, and-left}
+use Rattle.book.specs.declared.book.Sides.{Sides}
+use Rattle.book.specs.declared.book.Found.the-variants as sides
+use Rattle.book.specs.Rule.{sideLimits}
+use Rattle.book.specs.Book.{Rule, checkBook, ruleAt}
+use Rattle.book.specs.Found.{sidesAt}
+use Rattle.book.proofs.Laws.{sides-rule, sides-none, book-rule}
+use Rattle.fit.specs.Fit.{IsBody}
+use Rattle.fit.specs.Match.{treeOf, bodyList, lengthList}
+use Rattle.fit.specs.Lowest.{Fitting}
+use Rattle.fit.specs.Build.{startOf, wordsAt, largest, withinLimits}
+use Rattle.fit.proofs.Laws.{tree-of, within-limits-is, bodies-none, bodies-more, lengths-more, start-none, start-more, words-at-are}
+use Rattle.walk.specs.declared.with_book.BookMatch.the-variants as found
+use Rattle.walk.specs.Walk.{Walked, RuleFits, bookFits}
+use Rattle.walk.specs.State.{partFrom, Parted}
+use Rattle.walk.specs.WithBook.{bookWalk, BookWalked}
+use Rattle.walk.proofs.Laws.{FoundSound, walk-sound, fits-rule, parted-body, walked-none, walked-damaged, walked-rule}
+use Rattle.steps.specs.Right.{write}
+use Rattle.steps.specs.Rewrite.{rewritten}
+use Rattle.steps.specs.RightWalk.{BodiesStand, WrittenWithin, RightWritten}
+use Rattle.steps.specs.declared.rules.Rewrote.{Rewrote}
+use Rattle.steps.specs.declared.rules.Rewrote.the-variants as rewrote
+use Rattle.steps.specs.Operations.{RuleWritten, RowWritten, RewriteTold}
+use Rattle.steps.proofs.RightRows.{parametersOf, accepted-right}
+
+-- ---- bodies one after the other, with zeros after them
+length-next : (b : ℕ → Row) (y n : ℕ) → length (bodyList b y (suc n)) ≡ length (words (b y)) + length (bodyList b (suc y) n)
+length-next b y n = ap length (bodies-more b y n) ∙ length-append (words (b y)) (bodyList b (suc y) n)
+
+length-more : (b : ℕ → Row) (y x : ℕ) → length (bodyList b y (suc x)) ≡ length (bodyList b y x) + length (words (b (y + x)))
+length-more b y zero =
+    let z : y + 0 ≡ y = omega arith in
+    let e : length (bodyList b y 0) ≡ 0 = ap length (bodies-none b y) in
+    let f : length (bodyList b (suc y) 0) ≡ 0 = ap length (bodies-none b (suc y)) in
+    rw z (omega (arith, length-next b y 0, e, f))
+length-more b y (suc x) =
+    let z : suc y + x ≡ y + suc x = omega arith in
+    let r : length (bodyList b (suc y) (suc x)) ≡ length (bodyList b (suc y) x) + length (words (b (y + suc x))) = rw z at (length-more b (suc y) x) in
+    omega (arith, r, length-next b y (suc x), length-next b y x)
+
+length-at : (b : ℕ → Row) (zs : List ℕ) (y n x : ℕ) → x < n → getD (lengthList b y n ++ zs) x 0 ≡ length (words (b (y + x)))
+length-at b zs y zero x l = absurd (omega arith)
+length-at b zs y (suc n) zero l = let z : y + 0 ≡ y = omega arith in rw (z, lengths-more b y n)
+length-at b zs y (suc n) (suc x) l =
+    let z : suc y + x ≡ y + suc x = omega arith in
+    let r : getD (lengthList b (suc y) n ++ zs) x 0 ≡ length (words (b (y + suc x))) = rw z at (length-at b zs (suc y) n x (omega arith)) in
+    rw (lengths-more b y n) r
+
+words-there : (b : ℕ → Row) (zs : List ℕ) (y n x : ℕ) → x < n → take (length (words (b (y + x)))) (drop (length (bodyList b y x)) (bodyList b y n ++ zs)) ≡ words (b (y + x))
+words-there b zs y zero x l = absurd (omega arith)
+words-there b zs y (suc n) zero l =
+    let z : y + 0 ≡ y = omega arith in
+    rw (z, bodies-none b y, bodies-more b y n, append-assoc (words (b y)) (bodyList b (suc y) n) zs) (take-append-seam (words (b y)) (bodyList b (suc y) n ++ zs))
+words-there b zs y (suc n) (suc x) l =
+    let z : suc y + x ≡ y + suc x = omega arith in
+    let e : drop (length (bodyList b y (suc x))) (bodyList b y (suc n) ++ zs) ≡ drop (length (bodyList b (suc y) x)) (bodyList b (suc y) n ++ zs) =
+    rw (length-next b y x, bodies-more b y n, append-assoc (words (b y)) (bodyList b (suc y) n) zs) (drop-append-add (words (b y)) (bodyList b (suc y) n ++ zs) (length (bodyList b (suc y) x))) in
+    rw e (rw z at (words-there b zs (suc y) n x (omega arith)))
+
+module _ (b : ℕ → Row) (n : ℕ) (zs os : List ℕ) where
+  starts : (x : ℕ) → x ≤ n → startOf (lengthList b 0 n ++ os) x ≡ length (bodyList b 0 x)
+  starts zero l = start-none (lengthList b 0 n ++ os) ∙ sym (ap length (bodies-none b 0))
+  starts (suc x) l =
+      let z : 0 + x ≡ x = omega arith in
+      let m : length (bodyList b 0 (suc x)) ≡ length (bodyList b 0 x) + length (words (b x)) = rw z at (length-more b 0 x) in
+      let g : getD (lengthList b 0 n ++ os) x 0 ≡ length (words (b x)) = rw z at (length-at b os 0 n x (omega arith)) in
+      omega (arith, start-more (lengthList b 0 n ++ os) x, m, g, starts x (omega arith))
+
+  stands-at : (x : ℕ) → x < n → words (b x) ≡ wordsAt (bodyList b 0 n ++ zs) (lengthList b 0 n ++ os) x
+  stands-at x l =
+      let z : 0 + x ≡ x = omega arith in
+      let g : getD (lengthList b 0 n ++ os) x 0 ≡ length (words (b x)) = rw z at (length-at b os 0 n x l) in
+      let w : take (length (words (b x))) (drop (length (bodyList b 0 x)) (bodyList b 0 n ++ zs)) ≡ words (b x) = rw z at (words-there b zs 0 n x l) in
+      sym (words-at-are (bodyList b 0 n ++ zs) (lengthList b 0 n ++ os) x ∙ rw (g, starts x (omega arith)) w)
+
+-- ---- within the limits there is room
+pub within-short : (t : Row) → withinLimits t ≡ true → length (words t) ≤ 4096
+within-short t e = leb-true (length (words t)) 4096 (and-left (leb (length (words t)) 4096) (leb (nesting t) 64 && leb (largest t) 65535) (sym (within-limits-is t) ∙ e))
+
+-- ---- the right side of a rule
+module _ (book : List ℕ) (number : ℕ) (bodies lengths out done : List ℕ) where
+  pub rule-absent : sidesAt book number ≡ sides.None → (r : Step) → RuleWritten book number bodies lengths out done r
+  unfolding RuleWritten
+  rule-absent e r rule q = let z : ruleAt book number ≡ none = sides-none book number e in never (cc)
+
+  module _ (s : Sides) (e : sidesAt book number ≡ sides.Rule s) where
+    pub right-lies : (s .right ≤ s .end) × (s .end ≤ length book)
+    right-lies = let q = sides-rule book number s e .2 in (q .right-next, q .within)
+
+    pub rule-written : (r : Step) → RightWritten (take (s .end - s .right) (drop (s .right) book)) bodies lengths out done r → RuleWritten book number bodies lengths out done r
+    unfolding RuleWritten
+    rule-written r w rule q =
+        let a = sides-rule book number s e in
+        let i : a .0 ≡ rule = some-same (a .0) rule (sym (a .1) ∙ q) in
+        rw (a .2 .right-is ∙ ap (λ (u : Rule). u .right) i) at w
+      where
+        some-same : (u v : Rule) → some u ≡ some v → u ≡ v
+        some-same u v z = cc
+
+-- ---- a part
+abbrev pub rewroteBy : Step → Rewrote
+rewroteBy (step.Done n) = rewrote.Wrote n
+rewroteBy step.Stuck = rewrote.Over
+
+module _ (book : List ℕ) where
+  pub at-none : (w : Walked) (bodies lengths out : List ℕ) → BookWalked w found.None bodies lengths → RewriteTold book w bodies lengths out rewrote.None
+  unfolding RewriteTold
+  at-none w bodies lengths out b = let q = walked-none w bodies lengths b in rw (q .0) (refl, q .1, q .2)
+
+  pub at-damaged : (w : Walked) (address : ℕ) (bodies lengths out : List ℕ) → BookWalked w (found.Damaged address) bodies lengths → RewriteTold book w bodies lengths out (rewrote.Damaged address)
+  unfolding RewriteTold
+  at-damaged w address bodies lengths out b = rw (walked-damaged w address bodies lengths b) refl
+
+  module _ (accepted : checkBook book ≡ Good) (table ws : List ℕ) (parted : Parted ws) (some-words : 0 < length ws) where
+    wrote-within : (out done : List ℕ) → length out ≡ 4096 → (t : Row) (r : Step) → WrittenWithin out done t r → RowWritten t done (rewroteBy r)
+    wrote-within out done long t (step.Done n) w =
+        let s = within-short t (w .0) in
+        let z : 0 + length (words t) ≡ length (words t) = omega arith in
+        let e : done ≡ words t ++ drop (length (words t)) out = w .2 ∙ sets-eq (words t) out 0 (omega arith) ∙ rw z in
+        (w .0, w .1, omega (arith, w .1), ap (take n) e ∙ take-at (words t) (drop (length (words t)) out) n (sym (w .1)))
+    wrote-within out done long t step.Stuck w = w
+
+    rule-told : (f : Fitting) (n : ℕ) (rule : Rule) → ruleAt book (f .number) ≡ some rule → n ≡ rule .vars → ((x : ℕ) → x < n → IsBody (f .bodies x))
+        → (bodies lengths : List ℕ) → bodies ≡ bodyList (f .bodies) 0 n ++ replicate (65536 - length (bodyList (f .bodies) 0 n)) 0 → lengths ≡ lengthList (f .bodies) 0 n ++ replicate (16 - n) 0
+        → (out done : List ℕ) → length out ≡ 4096 → (r : Step) → RuleWritten book (f .number) bodies lengths out done r → RowWritten (rewritten book f) done (rewroteBy r)
+    unfolding RuleWritten RightWritten rewritten
+    rule-told f n rule e vars terms bodies lengths b l out done long r w =
+        let facts = book-rule book (f .number) rule accepted e in
+        let right = facts .right-tree in
+        let t : treeOf (rule .right) ≡ right .tree = tree-of sideLimits (rule .right) right in
+        let a = accepted-right book accepted (f .number) rule e in
+        let stand : BodiesStand (rule .vars) bodies lengths (f .bodies) =
+        record {
+          few = facts .few;
+          body = λ x h. terms x (omega (arith, vars, h));
+          same = λ x h. rw (b, l) (stands-at (f .bodies) n (replicate (65536 - length (bodyList (f .bodies) 0 n)) 0) (replicate (16 - n) 0) x (omega (arith, vars, h)));
+        } in
+        let low : nesting (treeOf (rule .right)) ≤ 16 = rw t (right .low) in
+        rw e (wrote-within out done long (write (f .bodies) 0 (treeOf (rule .right))) r (w rule e (rule .vars) (parametersOf (rule .left)) (f .bodies) (treeOf (rule .right)) (a .0) (a .1) low (ap words t ∙ sym (right .same)) stand))
+
+    found-told : (f : Fitting) (n : ℕ) → FoundSound (bookFits book) (RuleFits f n) → (bodies lengths : List ℕ) → bodies ≡ bodyList (f .bodies) 0 n ++ replicate (65536 - length (bodyList (f .bodies) 0 n)) 0
+        → lengths ≡ lengthList (f .bodies) 0 n ++ replicate (16 - n) 0 → (out done : List ℕ) → length out ≡ 4096 → (r : Step) → RuleWritten book (f .number) bodies lengths out done r → RowWritten (rewritten book f) done (rewroteBy r)
+    found-told f n fs bodies lengths b l out done long r w =
+        let q = fits-rule book (f .number) (fs .0) (fs .2) in
+        rule-told f n (q .0) (q .1) (sym (fs .1) ∙ q .2) (fs .3) bodies lengths b l out done long r w
+
+    pub at-rule : (number : ℕ) (bodies lengths : List ℕ) → BookWalked (bookWalk book table ws) (found.Rule number) bodies lengths → (out done : List ℕ) → length out ≡ 4096
+        → (r : Step) → RuleWritten book number bodies lengths out done r → RewriteTold book (bookWalk book table ws) bodies lengths done (rewroteBy r)
+    unfolding RewriteTold
+    at-rule number bodies lengths k out done long r w =
+        let q = walked-rule (bookWalk book table ws) number bodies lengths k in
+        go (bookWalk book table ws) (walk-sound (bookFits book) table (partFrom ws 0) (parted-body ws parted some-words)) (q .0) (q .1) (q .2) (q .3) (q .4) (q .5)
+      where
+        go : (v : Walked) → FoundSound (bookFits book) v → (f : Fitting) (n : ℕ) → v ≡ RuleFits f n → number ≡ f .number
+            → bodies ≡ bodyList (f .bodies) 0 n ++ replicate (65536 - length (bodyList (f .bodies) 0 n)) 0 → lengths ≡ lengthList (f .bodies) 0 n ++ replicate (16 - n) 0
+            → RewriteTold book v bodies lengths done (rewroteBy r)
+        go v s f n e y b l = rw e (found-told f n (rw e at s) bodies lengths b l out done long r (rw y at w))

@@ -1,0 +1,106 @@
+-- What rewriting at the root answers and leaves, way by way: the book, the term, and then how the walk and the rule ended. Its promise settles both.
+use mathlib.Core.Path.{_≡_, sym, ap, _∙_}
+use mathlib.Core.List.{List}
+use Prim.Native.Nat.{ℕ, _≤_, _<_}
+use native.Mathlib.Omega.{arith}
+use lib.ListN.{length, take, replicate}
+use Rattle.term.specs.declared.check.Checked.the-variants.{Good, Bad}
+use Rattle.term.specs.declared.answer.Answer.{Answer}
+use Rattle.term.specs.declared.answer.Answer.the-variants as answer
+use Rattle.term.specs.Row.{Row, nothing, node, width, words}
+use Rattle.term.specs.Check.{IsTerm, check, termLimits}
+use Rattle.term.specs.Part.{padded}
+use Rattle.term.proofs.Laws.{never, width-nothing, words-node, term-part, part-is, part-begins, good-tree}
+use Rattle.book.specs.Book.{checkBook}
+use Rattle.fit.specs.Match.{treeOf}
+use Rattle.fit.specs.Build.{refused, built}
+use Rattle.fit.proofs.Laws.{tree-of, limited-is, refused-built, built-built}
+use Rattle.walk.specs.Walk.{Walked, NoneFits, RuleFits, DamagedAt}
+use Rattle.walk.specs.State.{partFrom, Parted}
+use Rattle.walk.specs.WithBook.{bookWalk}
+use Rattle.walk.proofs.Laws.{from-stands}
+use Rattle.steps.specs.Rewrite.{rewritten, walkedRoot, rewriteRoot, rootAnswer, rootWords}
+use Rattle.steps.specs.declared.rules.Rewrote.the-variants as rewrote
+use Rattle.steps.specs.Operations.{RewriteTold, givenAnswer, BuiltTold}
+
+-- ---- what the term's words are
+some-words : (t : Row) → width t ≡ 1 → 0 < length (words t)
+some-words nothing e = let z : _≡_ {A = ℕ} 0 1 = sym width-nothing ∙ e in absurd (omega (arith, z))
+some-words (node h kids rest) e = rw (words-node h kids rest) (omega arith)
+
+module _ (ws : List ℕ) (i : IsTerm ws) where
+  pub term-parted : Parted ws
+  term-parted = record { begins = part-begins ws i; short = i .short }
+
+  pub term-some : 0 < length ws
+  term-some = omega (arith, ap length (i .same), some-words (i .tree) (i .one))
+
+  pub whole-part : partFrom ws 0 ≡ treeOf ws
+  whole-part = let s = part-is ws (i .tree) (term-part ws i) in from-stands ws 0 (i .tree) (s .0) (s .1) ∙ sym (tree-of termLimits ws i)
+
+-- ---- a refusal leaves zeros, a row that was built its words
+refused-told : (room : ℕ) (a : Answer) (out : List ℕ) → out ≡ replicate room 0 → BuiltTold room (refused a) a out
+refused-told room a out c = let q = refused-built room a in (sym (q .0), c ∙ sym (q .1))
+
+built-told : (room : ℕ) (u : Row) (r : Answer) (out : List ℕ) → (r ≡ givenAnswer room (words u) answer.Done) × (out ≡ padded room (words u)) → BuiltTold room (built u) r out
+built-told room u r out g = let q = built-built room u in (g .0 ∙ sym (q .0), g .1 ∙ sym (q .1))
+
+-- ---- how the walk and the rule ended
+module _ (book : List ℕ) (room : ℕ) (bodies lengths area out : List ℕ) where
+  module _ (c : out ≡ replicate room 0) where
+    pub root-none : (w : Walked) → RewriteTold book w bodies lengths area rewrote.None → BuiltTold room (walkedRoot book w) answer.NoFit out
+    unfolding RewriteTold
+    root-none NoneFits t = refused-told room answer.NoFit out c
+    root-none (RuleFits f n) t = absurd t
+    root-none (DamagedAt at) t = let z : rewrote.None ≡ rewrote.Damaged at = t in never (cc)
+
+    pub root-damaged : (w : Walked) (address : ℕ) → RewriteTold book w bodies lengths area (rewrote.Damaged address) → BuiltTold room (walkedRoot book w) (answer.Damaged address) out
+    unfolding RewriteTold
+    root-damaged NoneFits address t = let z : rewrote.Damaged address ≡ rewrote.None = t .0 in never (cc)
+    root-damaged (RuleFits f n) address t = absurd t
+    root-damaged (DamagedAt at) address t = let z : rewrote.Damaged address ≡ rewrote.Damaged at = t in let y : address ≡ at = cc in
+        let q = refused-told room (answer.Damaged at) out c in (ap answer.Damaged y ∙ q .0, q .1)
+
+    pub root-over : (w : Walked) → RewriteTold book w bodies lengths area rewrote.Over → BuiltTold room (walkedRoot book w) answer.Over out
+    unfolding RewriteTold
+    root-over NoneFits t = let z : rewrote.Over ≡ rewrote.None = t .0 in never (cc)
+    root-over (RuleFits f n) t = rw (limited-is (rewritten book f), t) (refused-told room answer.Over out c)
+    root-over (DamagedAt at) t = let z : rewrote.Over ≡ rewrote.Damaged at = t in never (cc)
+
+  pub root-few : (w : Walked) (n : ℕ) → RewriteTold book w bodies lengths area (rewrote.Wrote n) → n ≤ 4096
+  unfolding RewriteTold
+  root-few NoneFits n t = let z : rewrote.Wrote n ≡ rewrote.None = t .0 in never (cc)
+  root-few (RuleFits f m) n t = t .2
+  root-few (DamagedAt at) n t = let z : rewrote.Wrote n ≡ rewrote.Damaged at = t in never (cc)
+
+  pub root-wrote : (w : Walked) (n : ℕ) → RewriteTold book w bodies lengths area (rewrote.Wrote n)
+      → (r : Answer) → (r ≡ givenAnswer room (take n area) answer.Done) × (out ≡ padded room (take n area)) → BuiltTold room (walkedRoot book w) r out
+  unfolding RewriteTold
+  root-wrote NoneFits n t r g = let z : rewrote.Wrote n ≡ rewrote.None = t .0 in never (cc)
+  root-wrote (RuleFits f m) n t r g = rw (limited-is (rewritten book f), t .0) (built-told room (rewritten book f) r out (rw (t .3) at g))
+  root-wrote (DamagedAt at) n t r g = let z : rewrote.Wrote n ≡ rewrote.Damaged at = t in never (cc)
+
+-- ---- the book and the term
+module _ (room : ℕ) (book table ws : List ℕ) where
+  module _ (out : List ℕ) (c : out ≡ replicate room 0) where
+    pub root-bad-book : (at : ℕ) → checkBook book ≡ Bad at → (answer.BadBook at ≡ rootAnswer room book table ws) × (out ≡ rootWords room book table ws)
+    unfolding rewriteRoot
+    root-bad-book at e = rw e (refused-told room (answer.BadBook at) out c)
+
+    pub root-bad-term : checkBook book ≡ Good → (at : ℕ) → check termLimits ws ≡ Bad at → (answer.BadTerm at ≡ rootAnswer room book table ws) × (out ≡ rootWords room book table ws)
+    unfolding rewriteRoot
+    root-bad-term g at e = rw (g, e) (refused-told room (answer.BadTerm at) out c)
+
+  pub root-walked : checkBook book ≡ Good → check termLimits ws ≡ Good → (r : Answer) (out : List ℕ) → BuiltTold room (walkedRoot book (bookWalk book table ws)) r out
+      → (r ≡ rootAnswer room book table ws) × (out ≡ rootWords room book table ws)
+  unfolding rewriteRoot
+  root-walked g e r out t =
+      let p : partFrom ws 0 ≡ treeOf ws = whole-part ws (good-tree termLimits (omega arith) ws e) in
+      rw (g, e) (rw p at t)
+
+  -- ---- the promise of rewriting at the root settles the answer and every lent word
+  abbrev pub RootPromised : Answer → List ℕ → Type 0
+  RootPromised r out = (r ≡ rootAnswer room book table ws) × (out ≡ rootWords room book table ws)
+
+  pub root-settled : (r q : Answer) (out done : List ℕ) → RootPromised r out → RootPromised q done → (r ≡ q) × (out ≡ done)
+  root-settled r q out done x y = (x .0 ∙ sym (y .0), x .1 ∙ sym (y .1))

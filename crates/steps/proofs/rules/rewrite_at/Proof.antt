@@ -1,0 +1,57 @@
+-- `rules::rewrite_at` meets its contract: how the walk ended, and then what the rule wrote.
+use borrow.Author.Needs.{needs}
+use mathlib.Core.Path.{ap, _∙_}
+use lib.ListN.{length}
+use Rattle.term.specs.declared.renumber.Step.the-variants as step
+use Rattle.walk.specs.WithBook.{bookWalk}
+use Rattle.steps.proofs.Rewrites.{at-none, at-damaged, at-rule}
+use Rattle.steps.proofs.rules.rewrite_at.Statement.{statement}
+use Rattle.steps.proofs.rules.rewrite_at.Tie as tie
+
+walk-book-requires : tie.Need-walk-book-requires
+walk-book-requires c κs = (c .before .before .before .before .before .before .before .before .pre .1, c .before .before .before .before .before .before .before .before .pre .2, c .before .before .before .before .before .before .before .before .pre .3, c .before .before .before .before .before .before .before .before .pre .4)
+
+returns : tie.Need-returns
+returns c = let s = c .before .before .before .before .before .before .before .before .before .before .before .before .before .before .before .args in at-none (s .book .now) (bookWalk (s .book .now) (s .tree .now) (s .part .now)) _ _ _ (rw (c .enum-told .given .1) at (c .before .before .before .before .before .before .walk-book .ensures))
+
+returns-2 : tie.Need-returns-2
+returns-2 c = let s = c .before .before .before .before .before .before .before .before .before .before .before .before .before .before .before .before .args in at-damaged (s .book .now) (bookWalk (s .book .now) (s .tree .now) (s .part .now)) _ _ _ _ (rw (c .before .at .given .1) at (c .before .before .before .before .before .before .before .walk-book .ensures))
+
+write-rule-requires : tie.Need-write-rule-requires
+write-rule-requires c κs = c .before .before .before .before .before .before .before .before .before .before .walk-book .kept .1 .1 .1 .1 .0 ∙ ap length (c .before .before .before .before .before .before .before .before .before .before .before .before .before .before .before .before .before .before .before .pre .4)
+
+returns-3 : tie.Need-returns-3
+returns-3 c =
+    let s = c .before .before .before .before .before .before .before .before .before .before .before .before .before .before .before .before .before .before .before .before .before .before .before .before .before .args in
+    at-rule (s .book .now) (c .before .before .before .before .before .before .before .before .before .before .before .before .before .before .before .before .before .before .before .before .before .before .before .before .before .pre .0) (s .tree .now) (s .part .now) (c .before .before .before .before .before .before .before .before .before .before .before .before .before .before .before .before .before .before .before .before .before .before .before .before .before .pre .1) (c .before .before .before .before .before .before .before .before .before .before .before .before .before .before .before .before .before .before .before .before .before .before .before .before .before .pre .2) _ _ _ (rw (c .before .before .before .before .before .before .before .before .before .before .number .given .1) at (c .before .before .before .before .before .before .before .before .before .before .before .before .before .before .before .before .walk-book .ensures)) (s .out .now) _ (c .before .before .before .before .before .before .before .before .before .before .before .before .before .before .before .before .before .before .before .before .before .before .before .before .before .pre .5) (step.Done _) (rw (c .before .n .given .1) at (c .before .before .before .before .before .write-rule .ensures))
+
+returns-4 : tie.Need-returns-4
+returns-4 c =
+    let s = c .before .before .before .before .before .before .before .before .before .before .before .before .before .before .before .before .before .before .before .before .before .before .before .before .args in
+    at-rule (s .book .now) (c .before .before .before .before .before .before .before .before .before .before .before .before .before .before .before .before .before .before .before .before .before .before .before .before .pre .0) (s .tree .now) (s .part .now) (c .before .before .before .before .before .before .before .before .before .before .before .before .before .before .before .before .before .before .before .before .before .before .before .before .pre .1) (c .before .before .before .before .before .before .before .before .before .before .before .before .before .before .before .before .before .before .before .before .before .before .before .before .pre .2) _ _ _ (rw (c .before .before .before .before .before .before .before .before .before .number .given .1) at (c .before .before .before .before .before .before .before .before .before .before .before .before .before .before .before .walk-book .ensures)) (s .out .now) _ (c .before .before .before .before .before .before .before .before .before .before .before .before .before .before .before .before .before .before .before .before .before .before .before .before .pre .5) step.Stuck (rw (c .enum-told2 .given .1) at (c .before .before .before .before .write-rule .ensures))
+
+pub rewrite-at-spec : {M : Type 1} → statement M
+rewrite-at-spec =
+    tie.close
+    (tie.spec
+    walk-book-requires
+    (λ c. search needs)
+    (λ c. search needs)
+    (λ c. search needs)
+    write-rule-requires
+    (λ c. search needs)
+    (λ c. search needs)
+    (λ c. search needs)
+    (λ c. search needs)
+    returns
+    (λ c. search needs)
+    (λ c. search needs)
+    returns-2
+    (λ c. search needs)
+    (λ c. search needs)
+    (λ c. search needs)
+    returns-3
+    (λ c. search needs)
+    (λ c. search needs)
+    (λ c. search needs)
+    returns-4)

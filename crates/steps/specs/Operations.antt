@@ -1,0 +1,93 @@
+-- What the operations tell, one on the other: a rule written, a part rewritten, the lowest offset, a step in the work area, a run.
+use Prim.Native.Nat.{ℕ, _+_, _≤_}
+use mathlib.Core.Path.{_≡_}
+use mathlib.Core.Bool.{true, false}
+use mathlib.Core.List.{List}
+use mathlib.Core.Option.{some}
+use lib.Dec.{leb}
+use lib.ListN.{length, take, replicate}
+use Rattle.term.specs.declared.check.Checked.the-variants.{Good}
+use Rattle.term.specs.declared.answer.Answer.{Answer}
+use Rattle.term.specs.declared.answer.Answer.the-variants as answer
+use Rattle.term.specs.declared.renumber.Step.{Step}
+use Rattle.term.specs.Word.{pick}
+use Rattle.term.specs.Row.{Row, words}
+use Rattle.term.specs.Check.{check, termLimits}
+use Rattle.book.specs.Book.{Rule, checkBook, ruleAt}
+use Rattle.fit.specs.Build.{Built, buildAnswer, buildWords, withinLimits}
+use Rattle.walk.specs.Walk.{Walked, NoneFits, RuleFits, DamagedAt}
+use Rattle.steps.specs.Rewrite.{rewritten}
+use Rattle.steps.specs.RightWalk.{RightWritten}
+use Rattle.steps.specs.Step.{Sought, Nowhere, FoundAt, Broken, lowestOffset, Stepped, Rests, Becomes, Refused}
+use Rattle.steps.specs.Simplify.{Run, Stopped, Ended, budgetUsed, simplifyAnswer, simplifyWords, simplifySteps}
+use Rattle.steps.specs.declared.rules.Rewrote.{Rewrote}
+use Rattle.steps.specs.declared.rules.Rewrote.the-variants as rewrote
+use Rattle.steps.specs.declared.simplify.Lowest.{Lowest}
+use Rattle.steps.specs.declared.simplify.Lowest.the-variants as lowest
+use Rattle.steps.specs.declared.simplify.Moved.{Moved}
+use Rattle.steps.specs.declared.simplify.Moved.the-variants as moved
+use Rattle.steps.specs.declared.simplify.Simplified.{Simplified}
+
+abbrev pub Accepted : List ℕ → Type 0
+Accepted book = checkBook book ≡ Good
+
+-- the right side of the rule of this number, where the book has it
+unfoldable pub RuleWritten : List ℕ → ℕ → List ℕ → List ℕ → List ℕ → List ℕ → Step → Type 0
+RuleWritten book number bodies lengths out done r = (rule : Rule) → ruleAt book number ≡ some rule → RightWritten (rule .right) bodies lengths out done r
+
+-- ---- what a rule writes stands in front, or it is over the limits
+abbrev pub RowWritten : Row → List ℕ → Rewrote → Type 0
+RowWritten u out rewrote.None = ⊥
+RowWritten u out (rewrote.Wrote n) = (withinLimits u ≡ true) × (n ≡ length (words u)) × (n ≤ 4096) × (take n out ≡ words u)
+RowWritten u out (rewrote.Damaged at) = ⊥
+RowWritten u out rewrote.Over = withinLimits u ≡ false
+
+-- a part rewritten, by how its walk ended
+unfoldable pub RewriteTold : List ℕ → Walked → List ℕ → List ℕ → List ℕ → Rewrote → Type 0
+RewriteTold book NoneFits bodies lengths out r = (r ≡ rewrote.None) × (bodies ≡ replicate 65536 0) × (lengths ≡ replicate 16 0)
+RewriteTold book (RuleFits f n) bodies lengths out r = RowWritten (rewritten book f) out r
+RewriteTold book (DamagedAt at) bodies lengths out r = r ≡ rewrote.Damaged at
+
+-- ---- an answer with words into a lent slice
+abbrev pub givenAnswer : ℕ → List ℕ → Answer → Answer
+givenAnswer room ws a = pick (leb (length ws) room) a answer.Short
+
+abbrev pub BuiltTold : ℕ → Built → Answer → List ℕ → Type 0
+BuiltTold room b r out = (r ≡ buildAnswer room b) × (out ≡ buildWords room b)
+
+-- ---- the lowest offset with a rule, and what the rule writes there
+abbrev pub FoundTold : ℕ → Row → List ℕ → Lowest → Type 0
+FoundTold at u new lowest.Nowhere = ⊥
+FoundTold at u new (lowest.At a n) = (a ≡ at) × (withinLimits u ≡ true) × (n ≡ length (words u)) × (n ≤ 4096) × (take n new ≡ words u)
+FoundTold at u new lowest.Over = withinLimits u ≡ false
+FoundTold at u new (lowest.Broken address) = ⊥
+
+unfoldable pub LowestTold : List ℕ → Sought → List ℕ → Lowest → Type 0
+LowestTold book Nowhere new r = r ≡ lowest.Nowhere
+LowestTold book (FoundAt at f) new r = FoundTold at (rewritten book f) new r
+LowestTold book (Broken address) new r = r ≡ lowest.Broken address
+
+-- ---- a part replaced in the work area, and the whole checked
+abbrev pub ReplaceTold : List ℕ → List ℕ → Moved → Type 0
+ReplaceTold ws area moved.Rests = ⊥
+ReplaceTold ws area (moved.To size) = (check termLimits ws ≡ Good) × (size ≤ 4096) × (take size area ≡ ws)
+ReplaceTold ws area (moved.Refused a) = (a ≡ answer.Over) × (check termLimits ws ≡ Good → ⊥)
+
+-- a step in the work area
+unfoldable pub MoveTold : Stepped → List ℕ → List ℕ → Moved → Type 0
+MoveTold Rests before area r = (r ≡ moved.Rests) × (area ≡ before)
+MoveTold (Becomes u) before area r = (size : ℕ) × (r ≡ moved.To size) × (size ≤ 4096) × (take size area ≡ words u)
+MoveTold (Refused a) before area r = r ≡ moved.Refused a
+
+-- ---- how simplifying ends
+abbrev pub RunTold : ℕ → Run → Simplified → List ℕ → Type 0
+RunTold room run r out = (r .answer ≡ simplifyAnswer room run) × (out ≡ simplifyWords room run) × (r .steps ≡ simplifySteps run)
+
+-- a run with so many steps before it
+abbrev pub countedFrom : ℕ → Run → Run
+countedFrom n (Stopped m a) = Stopped (n + m) a
+countedFrom n (Ended m a t) = Ended (n + m) a t
+
+-- the budget is used after so many steps
+abbrev pub lookedAfter : List ℕ → List ℕ → ℕ → Row → Run
+lookedAfter book table n t = countedFrom n (budgetUsed t (lowestOffset book table t))

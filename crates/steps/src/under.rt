@@ -1,0 +1,73 @@
+// Where a word of a right side is written: the abstractions around it, and which of them are the right side's own.
+ghost use mathlib.Core.Path.{_≡_};
+ghost use Prim.Native.Nat.{_+_, _-_, _≤_, _<_};
+ghost use lib.ListN.{getD};
+ghost use Rattle.steps.specs.Under.{Around, atRoot, deeperBy, insideRight, idsIn};
+use term::renumber::NO_ID;
+use term::word::ABSTRACTION;
+use term::word::KIND;
+
+// A right side nests at most so deep.
+pub const MOST_OWN: usize = 16;
+
+// So many abstractions are around, and the right side has so many of them; for each of these, the outermost first, those around it.
+pub struct Under {
+    pub depth: u32,
+    pub own: usize,
+    pub marks: [u32; MOST_OWN],
+}
+
+impl Under {
+    // No abstraction is around the root.
+    pub fn root() -> Under
+        ensures { λ r. ⌜ r ≡ atRoot ⌝ }
+    {
+        Under {
+            depth: 0,
+            own: 0,
+            marks: [0u32; MOST_OWN],
+        }
+    }
+
+    // Under e abstractions of a body too.
+    pub fn deeper(mut self, e: u32) -> Under
+        requires { ⌜ self .depth + e ≤ 64 ⌝ }
+        ensures { λ r. ⌜ r ≡ deeperBy e self ⌝ }
+    {
+        self.depth = self.depth + e;
+        self
+    }
+
+    // Where the children of a word of the right side are written.
+    pub fn inside(mut self, w: u32) -> Under
+        requires { ⌜ Around self × (self .own < 16) × (self .depth < 64) ⌝ }
+        ensures { λ r. ⌜ r ≡ insideRight w self ⌝ }
+    {
+        if w / KIND != ABSTRACTION {
+            return self;
+        }
+        let depth = self.depth;
+        let own = self.own;
+        self.marks[own] = depth;
+        self.own = own + 1;
+        self.depth = depth + 1;
+        self
+    }
+
+    // The id that a variable of the right side has here.
+    pub fn own_id(self, i: u32) -> u32
+        requires { ⌜ Around self ⌝ }
+        ensures { λ r. ⌜ (1 ≤ i → i ≤ self .own → r ≡ getD (idsIn self) (i - 1) 0) ⌝ }
+    {
+        let own = self.own;
+        let back = i as usize;
+        if back == 0 {
+            return NO_ID;
+        }
+        if own < back {
+            return NO_ID;
+        }
+        let outer = own - back;
+        self.depth - self.marks[outer]
+    }
+}

@@ -1,0 +1,30 @@
+-- `load::load_row` meets its contract: the words, the abstractions passed and the variables are written one after the other.
+use borrow.Author.Needs.{needs}
+use mathlib.Core.Path.{_∙_}
+use lib.ListN.{length-set}
+use Rattle.tree.proofs.LoadLaws.{row-loaded}
+use Rattle.tree.proofs.load.load_row.Statement.{statement}
+use Rattle.tree.proofs.load.load_row.Tie as tie
+
+same-length : tie.Need-same-length
+same-length c = simp length-set (c .before .before .fill-depths .kept .1 .0 ∙ c .before .before .before .before .before .before .fill-words .kept .1 .0)
+
+returns : tie.Need-returns
+returns c =
+    let s = c .before .before .before .before .before .before .before .before .before .before .args in
+    row-loaded (s .left .now) (s .vars) (s .r) (s .fixed .now) _ _ (c .before .before .before .before .before .before .before .before .before .before .pre .1) (c .before .before .fill-depths .kept .1 .0 ∙ c .before .before .before .before .before .before .fill-words .kept .1 .0 ∙ c .before .before .before .before .before .before .before .before .before .before .pre .0) (c .before .before .before .before .before .before .fill-words .ensures) (c .before .before .fill-depths .ensures)
+
+pub load-row-spec : {M : Type 1} → statement M
+load-row-spec =
+    tie.close
+    (tie.spec
+    (λ c. search needs)
+    (λ c κs. search needs)
+    (λ c. search needs)
+    (λ c. search needs)
+    (λ c κs. search needs)
+    (λ c. search needs)
+    (λ c. search needs)
+    (λ c. search needs)
+    same-length
+    returns)

@@ -1,0 +1,39 @@
+-- `with_book::walk_book` meets its contract: the length of the tree, its root, and then the walk.
+use borrow.Author.Needs.{needs}
+use native.Mathlib.Omega.{arith}
+use mathlib.Core.Path.{refl}
+use Rattle.walk.proofs.BookEnds.{with-long, with-skip}
+use Rattle.walk.proofs.with_book.walk_book.Statement.{statement}
+use Rattle.walk.proofs.with_book.walk_book.Tie as tie
+
+returns : tie.Need-returns
+returns c = let s = c .before .before .before .before .before .before .args in with-long (s .book .now) (s .tree .now) (s .term .now) _ _ _ (c .before .before .before .before .before .before .pre .2) (c .before .before .before .before .before .before .pre .3) (c .if1 .taken) refl
+
+shared-slice-read-skips : tie.Need-shared-slice-read-skips
+shared-slice-read-skips c = c .before .before .before .before .before .before .before .pre .1
+
+returns-2 : tie.Need-returns-2
+returns-2 c = let s = c .before .before .before .before .before .before .before .before .before .args in with-skip (s .book .now) (s .tree .now) (s .term .now) _ _ _ (c .before .before .before .before .before .before .before .before .before .pre .2) (c .before .before .before .before .before .before .before .before .before .pre .3) (omega (arith, c .before .before .before .if1 .left)) (c .before .before .before .before .before .before .before .before .before .pre .0) (c .before .before .before .before .before .before .before .before .before .pre .1) _ (c .if2 .taken) (c .before .skips .ensures) refl
+
+walk-tree-requires : tie.Need-walk-tree-requires
+walk-tree-requires c κs = (c .before .before .before .before .before .before .before .before .before .pre .0, c .before .before .before .before .before .before .before .before .before .pre .1)
+
+match-with-requires : tie.Need-match-with-requires
+match-with-requires c κs = (c .before .before .before .before .before .before .before .before .before .before .before .before .pre .0, c .before .before .before .before .before .before .before .before .before .before .before .before .pre .1, c .before .before .walk-tree .ensures, omega (arith, c .before .before .before .before .before .before .if1 .left), c .before .before .before .before .before .before .before .before .before .before .before .before .pre .2, c .before .before .before .before .before .before .before .before .before .before .before .before .pre .3)
+
+returns-3 : tie.Need-returns-3
+returns-3 c = c .before .before .before .before .match-with .ensures
+
+pub walk-book-spec : {M : Type 1} → statement M
+walk-book-spec =
+    tie.close
+    (tie.spec
+    returns
+    shared-slice-read-skips
+    (λ c κs. search needs)
+    returns-2
+    walk-tree-requires
+    match-with-requires
+    (λ c. search needs)
+    (λ c. search needs)
+    returns-3)

@@ -1,0 +1,45 @@
+-- What a walk with a book answers and leaves. "Where a book is given too, a Leaf whose rule, n or counts don't fit it is damaged."
+use Prim.Native.Nat.{ℕ, _+_, _-_, _≤_}
+use mathlib.Core.Path.{_≡_}
+use mathlib.Core.Bool.{Bool, true, false}
+use mathlib.Core.List.{List, _++_}
+use mathlib.Core.Option.{Option, none, some}
+use lib.Dec.{eqb}
+use lib.ListN.{length, getD, drop, replicate}
+use Rattle.term.specs.Row.{Row}
+use Rattle.fit.specs.Match.{bodyList, lengthList}
+use Rattle.tree.specs.Tree.{LeafVariable, countsOf}
+use Rattle.walk.specs.Walk.{Walked, NoneFits, RuleFits, DamagedAt, variablesIn, isWord, walk, countsFit, bookFits}
+use Rattle.walk.specs.State.{partFrom}
+use Rattle.walk.specs.declared.with_book.BookMatch.{BookMatch}
+use Rattle.walk.specs.declared.with_book.BookMatch.the-variants.{None, Rule, Damaged}
+
+-- the walk with a book over the part that the words begin with
+abbrev pub bookWalk : List ℕ → List ℕ → List ℕ → Walked
+bookWalk book table ws = walk (bookFits book) table (partFrom ws 0)
+
+-- whether the counts of variables that were read are those of a left side, from a variable on
+abbrev pub countsIn : List ℕ → ℕ → Option (List LeafVariable) → Bool
+countsIn left x none = false
+countsIn left x (some vs) = countsFit left x (countsOf vs)
+
+abbrev pub variablesFit : List ℕ → ℕ → Option (List LeafVariable) → Bool
+variablesFit book rule none = false
+variablesFit book rule (some vs) = bookFits book rule (countsOf vs)
+
+-- whether the Leaf at an address fits the book
+unfoldable pub leafFits : List ℕ → List ℕ → ℕ → Bool
+leafFits book table at = variablesFit book (getD table (at + 1) 0) (variablesIn (getD table (at + 2) 0) (drop (at + 3) table))
+
+-- what is told of a tree's root and a word: where it is true, no rule fits a term that begins with the word
+abbrev pub SkipTold : List ℕ → ℕ → Bool → Type 0
+SkipTold table w true = (fits : ℕ → List ℕ → Bool) (t : Row) → ((v : ℕ) → isWord v t ≡ eqb v w) → length table ≤ 16384 → walk fits table t ≡ NoneFits
+SkipTold table w false = Unit {0}
+
+-- 16 bodies of at most 4,096 words always have room in 65,536 words: the bodies in variable order and their lengths, zeros after them
+unfoldable pub BookWalked : Walked → BookMatch → List ℕ → List ℕ → Type 0
+BookWalked NoneFits r bodies lengths = (r ≡ None) × (bodies ≡ replicate 65536 0) × (lengths ≡ replicate 16 0)
+BookWalked (RuleFits f n) r bodies lengths =
+    (r ≡ Rule (f .number)) × (bodies ≡ bodyList (f .bodies) 0 n ++ replicate (65536 - length (bodyList (f .bodies) 0 n)) 0)
+    × (lengths ≡ lengthList (f .bodies) 0 n ++ replicate (16 - n) 0)
+BookWalked (DamagedAt at) r bodies lengths = (r ≡ Damaged at) × (bodies ≡ replicate 65536 0) × (lengths ≡ replicate 16 0)

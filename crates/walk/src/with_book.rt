@@ -1,0 +1,160 @@
+// The walk where a book is given too.
+ghost use mathlib.Core.Path.{_≡_};
+ghost use Prim.Native.Nat.{_+_, _≤_, _<_};
+ghost use lib.ListN.{length, drop, replicate};
+ghost use Rattle.walk.specs.Walk.{variablesIn};
+ghost use Rattle.walk.specs.State.{Parted, WalkTold};
+ghost use Rattle.walk.specs.WithBook.{bookWalk, countsIn, leafFits, SkipTold, BookWalked};
+use crate::by_tree::MOST_TREE;
+use crate::leaf::COUNT;
+use crate::leaf::VARIABLE;
+use crate::leaf::write_leaf;
+use crate::state::CASE;
+use crate::state::FAIL;
+use crate::state::FIRST;
+use crate::state::NO_RULE;
+use crate::state::NODE;
+use crate::state::RULE;
+use crate::state::SECOND;
+use crate::state::SWITCH;
+use crate::state::Walk;
+use crate::state::walk_tree;
+use crate::taken::Taken;
+use crate::taken::find_case;
+use book::book::Found;
+use book::book::find_rule;
+use book::variables::counted_in;
+
+// The rule that the walk found, or why there is none.
+pub enum BookMatch {
+    None,
+    Rule(u32),
+    Damaged(usize),
+}
+
+// Whether the n variables of a Leaf from an address on have the counts that they have in a left side.
+fn counts_fit(tree: &[u32], from: usize, n: u32, left: &[u32]) -> bool
+    requires { ⌜ from ≤ length (now tree) ⌝ }
+    ensures { λ r. ⌜ r ≡ countsIn (now (left .entry)) 0 (variablesIn n (drop from (now (tree .entry)))) ⌝ }
+{
+    let mut at = from;
+    let mut x: u32 = 0;
+    while x < n {
+        if tree.len() - at < VARIABLE {
+            return false;
+        }
+        let k = tree[at + COUNT];
+        let list = at + VARIABLE;
+        if tree.len() - list < k as usize {
+            return false;
+        }
+        let counted = counted_in(x, left);
+        if counted == 0 {
+            return false;
+        }
+        if counted - 1 != k {
+            return false;
+        }
+        at = list + k as usize;
+        x = x + 1;
+    }
+    true
+}
+
+// Whether the Leaf at an address fits the book: its rule is there, with as many variables, and these with the counts of its left side.
+fn leaf_fits(book: &[u32], tree: &[u32], at: usize) -> bool
+    requires { ⌜ at + 3 ≤ length (now tree) ⌝ }
+    ensures { λ r. ⌜ r ≡ leafFits (now (book .entry)) (now (tree .entry)) at ⌝ }
+{
+    let Found::Rule(sides) = find_rule(book, tree[at + FIRST]) else {
+        return false;
+    };
+    let n = tree[at + SECOND];
+    if sides.vars != n {
+        return false;
+    }
+    let left = sides.left;
+    let right = sides.right;
+    counts_fit(tree, at + NODE, n, &book[left..right])
+}
+
+// Whether the tree's root is a Switch on the place 0 that has no case for a word, and its default is a Fail. No state is needed to say so.
+fn skips(tree: &[u32], word: u32) -> bool
+    ensures { λ r. ⌜ SkipTold (now (tree .entry)) word r ⌝ }
+{
+    if tree.len() < NODE {
+        return false;
+    }
+    if tree[0] != SWITCH {
+        return false;
+    }
+    if tree[FIRST] != 0 {
+        return false;
+    }
+    let cases = tree[SECOND] as usize;
+    if tree.len() - NODE <= CASE * cases {
+        return false;
+    }
+    let default = tree[NODE + CASE * cases] as usize;
+    if default == 0 {
+        return false;
+    }
+    if tree.len() <= default {
+        return false;
+    }
+    if tree[default] != FAIL {
+        return false;
+    }
+    match find_case(tree, NODE, cases, word) {
+        Taken::To(_) => false,
+        Taken::Not => true,
+    }
+}
+
+// A walk that ended over a part, with cleared outputs. There is always room for the bodies.
+fn match_with(
+    walk: Walk,
+    book: &[u32],
+    tree: &[u32],
+    term: &[u32],
+    bodies: &mut [u32],
+    lengths: &mut [u32],
+) -> BookMatch
+    requires { ⌜ Parted (now term) × (0 < length (now term)) × WalkTold (now tree) (now term) walk × (length (now tree) ≤ 16384)
+        × (now bodies ≡ replicate 65536 0) × (now lengths ≡ replicate 16 0) ⌝ }
+    ensures { λ r. ⌜ BookWalked (bookWalk (now (book .entry)) (now (tree .entry)) (now (term .entry))) r (now (bodies .exit)) (now (lengths .exit)) ⌝ }
+{
+    let at = walk.at;
+    if walk.stands == NO_RULE {
+        return BookMatch::None;
+    }
+    if walk.stands != RULE {
+        return BookMatch::Damaged(at);
+    }
+    if !leaf_fits(book, tree, at) {
+        return BookMatch::Damaged(at);
+    }
+    write_leaf(walk, tree, term, bodies, lengths);
+    BookMatch::Rule(tree[at + FIRST])
+}
+
+// Walks the tree over the part that the words begin with, and judges a Leaf by the book: the rule that was found, its bodies in variable
+// order and their lengths.
+pub fn walk_book(
+    book: &[u32],
+    tree: &[u32],
+    term: &[u32],
+    bodies: &mut [u32],
+    lengths: &mut [u32],
+) -> BookMatch
+    requires { ⌜ Parted (now term) × (0 < length (now term)) × (now bodies ≡ replicate 65536 0) × (now lengths ≡ replicate 16 0) ⌝ }
+    ensures { λ r. ⌜ BookWalked (bookWalk (now (book .entry)) (now (tree .entry)) (now (term .entry))) r (now (bodies .exit)) (now (lengths .exit)) ⌝ }
+{
+    if MOST_TREE < tree.len() {
+        return BookMatch::Damaged(MOST_TREE);
+    }
+    if skips(tree, term[0]) {
+        return BookMatch::None;
+    }
+    match_with(walk_tree(tree, term), book, tree, term, bodies, lengths)
+}
