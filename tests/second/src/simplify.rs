@@ -1,0 +1,90 @@
+//! Rewriting at the root, and simplifying.
+
+use crate::answer::{give, of, Answer, BUDGET_USED, NO_RULE_FITS, TOO_LARGE};
+use crate::book::{self, Book};
+use crate::fit::checked;
+use crate::right::write_right;
+use crate::term::{check_term, Laid};
+use crate::walk::{check_length, walk, Found};
+
+/// The whole term after the part at `at` was rewritten, or 15.
+fn rewritten(book: &Book, term: &Laid, at: usize, found: &Found) -> Result<Vec<u32>, Answer> {
+    let too_large = Answer::new(TOO_LARGE, 0);
+    let part = write_right(&book.rules[found.rule], &found.bodies, term.nesting[at])
+        .map_err(|_| too_large)?;
+    let mut new = term.words[..at].to_vec();
+    new.extend(part);
+    new.extend(&term.words[term.end[at]..]);
+    if check_term(&new) != Answer::DONE {
+        return Err(too_large);
+    }
+    Ok(new)
+}
+
+pub fn rewrite_root(book: &[u32], tree: &[u32], term: &[u32], out: &mut [u32]) -> Answer {
+    out.fill(0);
+    of((|| {
+        let book = book::read(book)?;
+        let term = checked(term)?;
+        check_length(tree)?;
+        let found = walk(tree, &term, 0, Some(&book))?.ok_or(Answer::new(NO_RULE_FITS, 0))?;
+        give(&rewritten(&book, &term, 0, &found)?, out)
+    })())
+}
+
+/// The lowest offset where the walk finds a rule.
+fn lowest(book: &Book, tree: &[u32], term: &Laid) -> Result<Option<(usize, Found)>, Answer> {
+    for at in 0..term.len() {
+        if let Some(found) = walk(tree, term, at, Some(book))? {
+            return Ok(Some((at, found)));
+        }
+    }
+    Ok(None)
+}
+
+/// Simplifies a checked term. `steps` counts the steps completed; the answer
+/// is 0 or 2 with the term so far.
+pub fn simplify_checked(
+    book: &Book,
+    tree: &[u32],
+    term: Laid,
+    budget: u16,
+    steps: &mut u32,
+) -> Result<(u32, Vec<u32>), Answer> {
+    let mut term = term;
+    loop {
+        let Some((at, found)) = lowest(book, tree, &term)? else {
+            return Ok((0, term.words));
+        };
+        if *steps == u32::from(budget) {
+            return Ok((BUDGET_USED, term.words));
+        }
+        term = Laid::of(&rewritten(book, &term, at, &found)?);
+        *steps += 1;
+    }
+}
+
+pub fn simplify(
+    book: &[u32],
+    tree: &[u32],
+    term: &[u32],
+    budget: u16,
+    out: &mut [u32],
+) -> (Answer, u32) {
+    out.fill(0);
+    let mut steps = 0;
+    let mut number = 0;
+    let answer = of((|| {
+        let book = book::read(book)?;
+        let term = checked(term)?;
+        check_length(tree)?;
+        let (reached, result) = simplify_checked(&book, tree, term, budget, &mut steps)?;
+        number = reached;
+        give(&result, out)
+    })());
+    if answer == Answer::DONE {
+        (Answer::new(number, 0), steps)
+    } else {
+        (answer, steps)
+    }
+}
