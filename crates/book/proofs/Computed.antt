@@ -1,28 +1,16 @@
 -- Document 01's sentences on the book, each computed from the definitions on a book that keeps it or breaks it.
 use mathlib.Core.Path.{_≡_, refl}
-use mathlib.Core.Bool.{Bool, true, false}
 use mathlib.Core.List.{List, [], _∷_, _++_}
-use Prim.Native.Nat.{ℕ, _+_, _*_}
+use Prim.Native.Nat.{ℕ, _+_}
 use lib.ListN.{length}
 use Rattle.term.specs.declared.check.Checked.the-variants.{Good, Bad}
-use Rattle.term.specs.Word.{symbol, abstraction, variable, pattern, word, kind, count, ident, headOf, headWith}
+use Rattle.term.specs.Word.{word, kind, count, ident, headOf, headWith}
 use Rattle.term.specs.Row.{words, width, kinds, nesting, read, firsts, others}
 use Rattle.term.specs.Check.{check, scan, settle, mayStand}
 use Rattle.term.specs.Renumber.{position, listed, goodList}
 use Rattle.book.specs.Rule.{idsOf, leftShape, rootSymbol, rightShape, counted, oneCount, allOccur, noOther, goodLeft, goodRight, goodRule}
 use Rattle.book.specs.Book.{ruleOf, judge, checkBook}
-
-s : ℕ → ℕ → ℕ
-s i c = word (symbol i c)
-
-l : ℕ
-l = word abstraction
-
-v : ℕ → ℕ
-v i = word (variable i)
-
-m : ℕ → ℕ → ℕ
-m i c = word (pattern i c)
+use Rattle.book.specs.Marked.{s, l, v, m}
 
 -- a rule's words
 rule : ℕ → List ℕ → List ℕ → List ℕ

@@ -12,3 +12,7 @@ pub use Rattle.book.proofs.Occurrences.{occurs-nothing, occurs-node, be
 pub use Rattle.book.proofs.Rules.{RuleFacts, good-facts, book-rule, book-rules, number-rule, rule-number, beyond-none}
 -- Where the sides of a rule lie, both ways.
 pub use Rattle.book.proofs.Rules.{SidesAre, sides-rule, sides-none, rule-sides, none-sides}
+-- A rule in words, both ways; and how a book is judged, rule after rule.
+pub use Rattle.book.proofs.Above.{words-rule, rule-words, judge-end, judge-over, judge-next, check-empty, check-counted}
+-- The place of a bad book is at most 64.
+pub use Rattle.book.proofs.FirstBad.{BadWithin, bad-within}

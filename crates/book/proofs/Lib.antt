@@ -7,5 +7,7 @@ mod Sides
 mod Places
 mod Occurrences
 mod Rules
+mod Above
+mod FirstBad
 mod Computed
 pub mod Laws

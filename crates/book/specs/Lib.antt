@@ -4,3 +4,4 @@ pub mod Book
 pub mod Shape
 pub mod Found
 pub mod Occurs
+pub mod Marked

@@ -1,44 +1,22 @@
 -- Document 01's P1 to P10, as far as each concerns one rule, and the answers of building, computed from the definitions.
 use mathlib.Core.Path.{_≡_, refl}
-use mathlib.Core.Bool.{Bool, true, false}
-use mathlib.Core.List.{List, [], _∷_, _++_}
+use mathlib.Core.List.{List, [], _∷_}
 use mathlib.Core.Option.{Option, none, some}
-use Prim.Native.Nat.{ℕ, _+_, _*_}
+use Prim.Native.Nat.{ℕ}
 use lib.ListN.{replicate}
 use Rattle.term.specs.Answer.{numberOf, placeOf}
-use Rattle.term.specs.Word.{Head, symbol, abstraction, variable, pattern, word, kind, count, ident, headOf, headWith}
-use Rattle.term.specs.Row.{Row, nothing, node, words, width, kinds, nesting, read, firsts, others, _⧺_}
+use Rattle.term.specs.Word.{word, kind, count, ident, headOf, headWith}
+use Rattle.term.specs.Row.{words, width, kinds, nesting, read, firsts, others, _⧺_}
 use Rattle.term.specs.Check.{check, scan, settle, mayStand}
 use Rattle.term.specs.Renumber.{position, listed, goodList, idTerm, idBody, inside, renumberHead, renumber, namedHead, named, closed, toTerm, toBody}
 use Rattle.term.specs.Part.{sameWords, padded}
 use Rattle.book.specs.Rule.{idsOf, leftShape, rootSymbol, rightShape, counted, oneCount, allOccur, noOther, goodLeft, goodRight, goodRule}
 use Rattle.book.specs.Book.{ruleOf, judge, checkBook, nthRule, ruleAt}
+use Rattle.book.specs.Marked.{s, l, v, m, bookA, bookB}
 use Rattle.fit.specs.Left.{leftOf}
 use Rattle.fit.specs.Fit.{build, found, bodyIn, allSame, matching}
-use Rattle.fit.specs.Match.{treeOf, leftIn, bodyList, Matched, refused, fitted, matchRule, matchWords, matchAnswer}
+use Rattle.fit.specs.Match.{treeOf, leftIn, bodyList, Matched, refused, fitted, matchRule}
 use Rattle.fit.specs.Build.{startOf, wordsAt, givenBodies, allZero, goodLengths, checkBodies, largest, withinLimits, limited, buildLeft, buildAnswer, buildWords}
-
-s : ℕ → ℕ → ℕ
-s i c = word (symbol i c)
-
-l : ℕ
-l = word abstraction
-
-v : ℕ → ℕ
-v i = word (variable i)
-
-m : ℕ → ℕ → ℕ
-m i c = word (pattern i c)
-
-bookA : List ℕ
-bookA = 3
-    ∷ 1 ∷ 3 ∷ 1 ∷ s 2 2 ∷ m 0 0 ∷ m 0 0 ∷ m 0 0
-    ∷ 1 ∷ 3 ∷ 1 ∷ s 3 1 ∷ l ∷ m 0 0 ∷ m 0 0
-    ∷ 1 ∷ 5 ∷ 5 ∷ s 3 1 ∷ l ∷ s 4 1 ∷ m 0 1 ∷ v 1 ∷ s 4 1 ∷ s 3 1 ∷ l ∷ m 0 1 ∷ v 1
-    ∷ []
-
-bookB : List ℕ
-bookB = 1 ∷ 1 ∷ 8 ∷ 1 ∷ s 6 2 ∷ l ∷ m 0 1 ∷ v 1 ∷ l ∷ l ∷ m 0 1 ∷ v 2 ∷ s 7 0 ∷ []
 
 -- the bodies' words, or none
 abbrev bodies : Matched → Option (List ℕ)

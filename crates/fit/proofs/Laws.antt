@@ -41,3 +41,5 @@ pub use Rattle.fit.proofs.Inner.{head-at}
 -- Lines of definitions: depth, first occurrences, constraints, bodies in variable order, what is left of what was built.
 pub use Rattle.fit.proofs.Lines.{deep-hole, deep-part, first-nothing, first-here, closeds-none, closeds-more, sames-none, sames-more, constraints-are}
 pub use Rattle.fit.proofs.Lines.{bodies-none, bodies-more, lengths-none, lengths-more, start-none, start-more, words-at-are, refused-built, built-built}
+-- Matching one rule and building a left side, judgement by judgement; what is left of a refusal; what bodies in variable order build.
+pub use Rattle.fit.proofs.Judgements.{match-bad-book, match-no-rule, match-bad-term, match-one-rule, match-zeros, build-bad-book, build-no-rule, build-bad-lengths, build-bad-body, build-from, build-given}

@@ -33,4 +33,5 @@ mod Fitted
 mod Lines
 mod Computed
 mod Clauses
+mod Judgements
 pub mod Laws

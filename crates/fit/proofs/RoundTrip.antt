@@ -166,7 +166,7 @@ built-then-matched book number bodies lengths l t e = back book number bodies le
 
 -- ---- matched, then built
 -- what is built depends on the bodies of its variables only
-build-agree : (vars : ℕ) (f g : ℕ → Row) → ((x : ℕ) → x < vars → f x ≡ g x) → (d : ℕ) (p : Left) → GoodLeft vars d p → build f d p ≡ build g d p
+pub build-agree : (vars : ℕ) (f g : ℕ → Row) → ((x : ℕ) → x < vars → f x ≡ g x) → (d : ℕ) (p : Left) → GoodLeft vars d p → build f d p ≡ build g d p
 unfolding build GoodLeft
 build-agree vars f g e d end q = refl
 build-agree vars f g e d (hole x ys rest) q = rw (e x (q .0), build-agree vars f g e d rest (q .2))
@@ -176,10 +176,10 @@ build-agree vars f g e d (part h kids rest) q = rw (build-agree vars f g e (insi
 body-term : (b : Row) → IsBody b → IsTerm (words b)
 body-term b i = record { tree = b; one = i .one; formed = i .formed; few = i .few; low = i .low; short = i .short; same = refl }
 
-body-good : (b : Row) → IsBody b → check termLimits (words b) ≡ Good
+pub body-good : (b : Row) → IsBody b → check termLimits (words b) ≡ Good
 body-good b i = tree-good termLimits (words b) (body-term b i)
 
-body-tree : (b : Row) → IsBody b → treeOf (words b) ≡ b
+pub body-tree : (b : Row) → IsBody b → treeOf (words b) ≡ b
 unfolding body-term
 body-tree b i = tree-of termLimits (words b) (body-term b i)
 

@@ -11,6 +11,18 @@ use Rattle.term.specs.Renumber.{inside, Listed}
 use Rattle.term.specs.Part.{past, partEnd, sameWords}
 
 -- ---- words of the table
+pub ident-symbol : (i c : ℕ) → ident (symbol i c) ≡ i
+unfolding ident
+ident-symbol i c = refl
+
+pub word-symbol : (i c : ℕ) → word (symbol i c) ≡ c * 65536 + i
+unfolding word kind count ident
+word-symbol i c = omega arith
+
+pub word-abstraction : word abstraction ≡ 16842752
+unfolding word kind count ident
+word-abstraction = refl
+
 pub word-variable : (i : ℕ) → word (variable i) ≡ 33554432 + i
 unfolding word kind count ident
 word-variable i = omega arith
@@ -22,6 +34,14 @@ word-pattern x c = omega arith
 pub pattern-table : (x c : ℕ) → c ≤ 4 → x ≤ 15 → InTable (pattern x c)
 unfolding InTable
 pattern-table x c a b = (a, b)
+
+pub symbol-table : (i c : ℕ) → c ≤ 15 → i ≤ 1023 → InTable (symbol i c)
+unfolding InTable
+symbol-table i c a b = (a, b)
+
+pub symbol-few : (i c : ℕ) → InTable (symbol i c) → (c ≤ 15) × (i ≤ 1023)
+unfolding InTable
+symbol-few i c t = t
 
 pub inside-next : (h : Head) (d : ℕ) → inside h d ≤ suc d
 unfolding inside

@@ -45,3 +45,5 @@ pub use Rattle.term.proofs.Settled.{settled, settled-both, settled-thre
 pub use Rattle.term.proofs.Renumbers.{EveryHead}
 pub use Rattle.term.proofs.Heads.{renumber-symbol, renumber-abstraction, renumber-variable, renumber-pattern, inside-variable, variable-id, id-variable, every-parts}
 pub use Rattle.term.proofs.Above.{word-variable, word-pattern, pattern-table, inside-next, listed-more, past-step, part-past, part-short, same-none, same-more}
+-- The words of the other heads, and the table's row of a symbol.
+pub use Rattle.term.proofs.Above.{ident-symbol, word-symbol, word-abstraction, symbol-table, symbol-few}

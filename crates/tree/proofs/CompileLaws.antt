@@ -1,4 +1,4 @@
--- What compiling answers and leaves, way by way: the book, and then whether the tree that the tables stand for has room.
+-- What compiling answers, leaves and says, way by way: the book, and then whether the tree that the tables stand for has room.
 use mathlib.Core.Path.{_≡_, refl, sym, ap, _∙_}
 use mathlib.Core.Bool.{Bool, true, false, _&&_}
 use mathlib.Core.List.{List}
@@ -10,7 +10,6 @@ use lib.Seq.{sets}
 use borrow.Author.Tests.{le-leb, leb-true}
 use Rattle.term.specs.declared.renumber.Step.the-variants as step
 use Rattle.term.specs.declared.check.Checked.the-variants.{Good, Bad}
-use Rattle.term.specs.declared.answer.Answer.{Answer}
 use Rattle.term.specs.declared.answer.Answer.the-variants as answer
 use Rattle.term.proofs.Laws.{wrote}
 use Rattle.book.specs.Book.{checkBook}
@@ -18,8 +17,10 @@ use Rattle.tree.specs.Path.{start}
 use Rattle.tree.specs.Compile.{compile, bookRows, bookTree}
 use Rattle.tree.specs.Layout.{long, layout}
 use Rattle.tree.specs.Stands.{rowsLeft, Stands, TreeTold, TreeReady}
-use Rattle.tree.specs.Compiled.{treeWords, hasRoom, compiledAnswer, compiledWords, compileAnswer, compileWords}
+use Rattle.tree.specs.Compiled.{treeWords, hasRoom, compiledAnswer, compiledWords, compiledLength, compileAnswer, compileWords, compileLength}
+use Rattle.tree.specs.declared.compile.Compiled.{Compiled}
 use Rattle.tree.proofs.Layouts.{length-layout, tree-words}
+use Rattle.tree.proofs.Settled.{CompilePromised}
 
 -- ---- room
 room-there : (room : ℕ) (ws : List ℕ) → length ws ≤ room - (room - 16384) → hasRoom room ws ≡ true
@@ -35,16 +36,22 @@ no-room-there room ws h = go (leb (length ws) 16384) refl (leb (length ws) room)
     go true p false q = refl
     go false p b q = refl
 
--- what is answered and left of an accepted book
-abbrev pub Answered : ℕ → List ℕ → Answer → List ℕ → Type 0
-Answered room book r out = (r ≡ compiledAnswer room book Good) × (out ≡ compiledWords room book Good)
+-- what is answered, left and said of an accepted book
+abbrev pub Answered : ℕ → List ℕ → Compiled → List ℕ → Type 0
+Answered room book r out = (r .answer ≡ compiledAnswer room book Good) × (out ≡ compiledWords room book Good) × (r .words ≡ compiledLength room book Good)
 
-wrote-tree : (room : ℕ) (book out : List ℕ) → length (treeWords book) ≤ room - (room - 16384) → out ≡ sets (replicate room 0) 0 (treeWords book) → Answered room book answer.Done out
+abbrev pub wroteTree : ℕ → Compiled
+wroteTree n = record { answer = answer.Done; words = n }
+
+abbrev pub noRoom : Compiled
+noRoom = record { answer = answer.Short; words = 0 }
+
+wrote-tree : (room : ℕ) (book out : List ℕ) → length (treeWords book) ≤ room - (room - 16384) → out ≡ sets (replicate room 0) 0 (treeWords book) → Answered room book (wroteTree (length (treeWords book))) out
 wrote-tree room book out h e =
-    rw (room-there room (treeWords book) h) (refl, wrote room (treeWords book) out (omega (arith, h)) e .1)
+    rw (room-there room (treeWords book) h) (refl, wrote room (treeWords book) out (omega (arith, h)) e .1, refl)
 
-short-tree : (room : ℕ) (book out : List ℕ) → room - (room - 16384) < length (treeWords book) → out ≡ replicate room 0 → Answered room book answer.Short out
-short-tree room book out h e = rw (no-room-there room (treeWords book) h) (refl, e)
+short-tree : (room : ℕ) (book out : List ℕ) → room - (room - 16384) < length (treeWords book) → out ≡ replicate room 0 → Answered room book noRoom out
+short-tree room book out h e = rw (no-room-there room (treeWords book) h) (refl, e, refl)
 
 -- ---- what the cycle tells at the start of a path
 module _ (book fixed nums marks : List ℕ) (stands : Stands book fixed nums marks 1 start) (rows : rowsLeft book marks 0 64 ≡ bookRows book 0 (getD book 0 0)) where
@@ -65,23 +72,23 @@ module _ (book fixed nums marks : List ℕ) (stands : Stands book fixed nums mar
         let s = t start stands in
         (omega (arith, s .0, long-is), s .1 ∙ rw (words-are, clear))
 
-    pub compile-done : (a : ℕ) → TreeTold book fixed nums marks limit 1 0 out done (step.Done a) → a ≤ limit → Answered room book answer.Done done
-    compile-done a t h = let s = told-long a t in wrote-tree room book done (omega (arith, h, s .0, most)) (s .1)
+    pub compile-done : (a : ℕ) → TreeTold book fixed nums marks limit 1 0 out done (step.Done a) → a ≤ limit → Answered room book (wroteTree a) done
+    compile-done a t h = let s = told-long a t in rw (s .0) (wrote-tree room book done (omega (arith, h, s .0, most)) (s .1))
 
-    pub compile-over : (a : ℕ) → TreeTold book fixed nums marks limit 1 0 out done (step.Done a) → limit < a → (last : List ℕ) → last ≡ replicate room 0 → Answered room book answer.Short last
+    pub compile-over : (a : ℕ) → TreeTold book fixed nums marks limit 1 0 out done (step.Done a) → limit < a → (last : List ℕ) → last ≡ replicate room 0 → Answered room book noRoom last
     compile-over a t h last z = short-tree room book last (omega (arith, h, told-long a t .0, most)) z
 
-    pub compile-stuck : TreeTold book fixed nums marks limit 1 0 out done step.Stuck → (last : List ℕ) → last ≡ replicate room 0 → Answered room book answer.Short last
+    pub compile-stuck : TreeTold book fixed nums marks limit 1 0 out done step.Stuck → (last : List ℕ) → last ≡ replicate room 0 → Answered room book noRoom last
     unfolding TreeTold
     compile-stuck t last z = short-tree room book last (omega (arith, t start stands, long-is, most)) z
 
 -- ---- the operation
-pub compile-bad : (room : ℕ) (book out : List ℕ) (at : ℕ) → checkBook book ≡ Bad at → out ≡ replicate room 0 → (answer.BadBook at ≡ compileAnswer room book) × (out ≡ compileWords room book)
-unfolding compileAnswer compileWords
-compile-bad room book out at e z = rw e (refl, z)
+pub compile-bad : (room : ℕ) (book out : List ℕ) (at : ℕ) → checkBook book ≡ Bad at → out ≡ replicate room 0 → CompilePromised room book (record { answer = answer.BadBook at; words = 0 }) out
+unfolding compileAnswer compileWords compileLength
+compile-bad room book out at e z = rw e (refl, z, refl)
 
-pub compile-good : (room : ℕ) (book : List ℕ) (r : Answer) (out : List ℕ) → checkBook book ≡ Good → Answered room book r out → (r ≡ compileAnswer room book) × (out ≡ compileWords room book)
-unfolding compileAnswer compileWords
+pub compile-good : (room : ℕ) (book : List ℕ) (r : Compiled) (out : List ℕ) → checkBook book ≡ Good → Answered room book r out → CompilePromised room book r out
+unfolding compileAnswer compileWords compileLength
 compile-good room book r out e a = rw e a
 
 -- ---- cleared tables

@@ -4,12 +4,13 @@ use mathlib.Core.List.{List, [], _∷_}
 use mathlib.Core.Option.{Option, none, some}
 use Prim.Native.Nat.{ℕ}
 use lib.ListN.{length, take}
-use Rattle.term.specs.Word.{symbol, abstraction, variable, pattern, word, kind, count, ident, headOf, headWith}
+use Rattle.term.specs.Word.{word, kind, count, ident, headOf, headWith}
 use Rattle.term.specs.Row.{words, read, firsts, others}
 use Rattle.term.specs.Renumber.{position, idBody, inside, renumberHead, renumber, namedHead, named, closed, toBody}
 use Rattle.term.specs.Part.{sameWords}
 use Rattle.book.specs.Rule.{idsOf}
 use Rattle.book.specs.Book.{ruleOf, nthRule, ruleAt}
+use Rattle.book.specs.Marked.{s, l, v, m, bookA}
 use Rattle.fit.specs.Left.{leftOf}
 use Rattle.fit.specs.Constraint.{childrenOf, isHead, occurrences, closeds, firstOf, sames, constraints, bodyHere}
 use Rattle.fit.specs.Match.{treeOf, leftIn}
@@ -19,28 +20,6 @@ use Rattle.tree.specs.Rows.{sub, below, subsUnder, subAt, headAt, lowest
 use Rattle.tree.specs.Compile.{without, heads, caseRows, defaultRows, entering, holding, rowsWithout, testOf, variablesFrom, leafOf, casesOf, nodeOf, step, compileBy, compile, bookRows, bookTree}
 use Rattle.tree.specs.Find.{rootPart, partOf, markedPart, childParts, insideOf, enterPart, bodyFor, leafBody, find, findCase}
 use Rattle.tree.specs.Layout.{variableWords, caseCount, long, longCases, caseHeads, layout, layoutCases}
-
-s : ℕ → ℕ → ℕ
-s i c = word (symbol i c)
-
-l : ℕ
-l = word abstraction
-
-v : ℕ → ℕ
-v i = word (variable i)
-
-m : ℕ → ℕ → ℕ
-m i c = word (pattern i c)
-
-bookA : List ℕ
-bookA = 3
-    ∷ 1 ∷ 3 ∷ 1 ∷ s 2 2 ∷ m 0 0 ∷ m 0 0 ∷ m 0 0
-    ∷ 1 ∷ 3 ∷ 1 ∷ s 3 1 ∷ l ∷ m 0 0 ∷ m 0 0
-    ∷ 1 ∷ 5 ∷ 5 ∷ s 3 1 ∷ l ∷ s 4 1 ∷ m 0 1 ∷ v 1 ∷ s 4 1 ∷ s 3 1 ∷ l ∷ m 0 1 ∷ v 1
-    ∷ []
-
-bookB : List ℕ
-bookB = 1 ∷ 1 ∷ 8 ∷ 1 ∷ s 6 2 ∷ l ∷ m 0 1 ∷ v 1 ∷ l ∷ l ∷ m 0 1 ∷ v 2 ∷ s 7 0 ∷ []
 
 -- book A's tree has 51 words, and begins as document 01 says
 words-A : (length (layout 0 (bookTree bookA)) ≡ 51) × (take 8 (layout 0 (bookTree bookA)) ≡ 2 ∷ 0 ∷ 2 ∷ 131074 ∷ 8 ∷ 65539 ∷ 20 ∷ 50 ∷ [])
@@ -54,25 +33,6 @@ ruleAndBody (some f) = some (f .number, words (f .bodies 0))
 
 abbrev finds : List ℕ → List ℕ → Option (ℕ × List ℕ)
 finds book ws = ruleAndBody (find (bookTree book) (rootPart (treeOf ws)))
-
--- P1 to P10, by the tree
-marked-A :
-    (finds bookA (s 2 2 ∷ s 7 0 ∷ s 7 0 ∷ []) ≡ some (0, s 7 0 ∷ []))
-    × (finds bookA (s 2 2 ∷ s 7 0 ∷ s 8 0 ∷ []) ≡ none)
-    × (finds bookA (s 3 1 ∷ l ∷ v 2 ∷ []) ≡ some (1, v 1 ∷ []))
-    × (finds bookA (s 3 1 ∷ l ∷ v 1 ∷ []) ≡ none)
-    × (finds bookA (s 3 1 ∷ l ∷ s 4 1 ∷ v 1 ∷ []) ≡ some (2, v 1 ∷ []))
-    × (finds bookA (s 3 1 ∷ l ∷ s 4 1 ∷ s 7 0 ∷ []) ≡ some (1, s 4 1 ∷ s 7 0 ∷ []))
-unfolding s l v m bookA word kind count ident headOf headWith words read firsts others position inside idBody renumberHead renumber namedHead named closed toBody sameWords idsOf ruleOf nthRule ruleAt leftOf childrenOf isHead bodyHere occurrences closeds firstOf sames constraints treeOf leftIn placeNumbered numberIn childrenFrom marked enter sub below subsUnder subAt headAt lowestOpen isIn among sameConstraint has unstruck constraintsLeft wordsOf wordsLeft size without heads caseRows defaultRows entering holding rowsWithout testOf variablesFrom leafOf casesOf nodeOf step compileBy compile bookRows bookTree partOf markedPart childParts insideOf enterPart bodyFor leafBody find findCase
-marked-A = (refl, refl, refl, refl, refl, refl)
-
-marked-B :
-    (finds bookB (s 6 2 ∷ l ∷ v 1 ∷ l ∷ l ∷ v 2 ∷ []) ≡ some (0, v 1 ∷ []))
-    × (finds bookB (s 6 2 ∷ l ∷ v 1 ∷ l ∷ l ∷ v 1 ∷ []) ≡ none)
-    × (finds bookB (s 6 2 ∷ l ∷ v 2 ∷ l ∷ l ∷ v 3 ∷ []) ≡ some (0, v 2 ∷ []))
-    × (finds bookB (s 6 2 ∷ l ∷ v 2 ∷ l ∷ l ∷ v 2 ∷ []) ≡ none)
-unfolding s l v m bookB word kind count ident headOf headWith words read firsts others position inside idBody renumberHead renumber namedHead named closed toBody sameWords idsOf ruleOf nthRule ruleAt leftOf childrenOf isHead bodyHere occurrences closeds firstOf sames constraints treeOf leftIn placeNumbered numberIn childrenFrom marked enter sub below subsUnder subAt headAt lowestOpen isIn among sameConstraint has unstruck constraintsLeft wordsOf wordsLeft size without heads caseRows defaultRows entering holding rowsWithout testOf variablesFrom leafOf casesOf nodeOf step compileBy compile bookRows bookTree partOf markedPart childParts insideOf enterPart bodyFor leafBody find findCase
-marked-B = (refl, refl, refl, refl)
 
 -- book A with its rules 1 and 2 exchanged: a row of variables does not pass before an earlier row that still stands
 bookC : List ℕ

@@ -16,7 +16,9 @@ pub use Rattle.tree.proofs.Totals.{total, length-total, total-entered, 
 pub use Rattle.tree.proofs.Clauses.{part-first, part-later, marked-none, marked-first, marked-later, child-parts-none, child-parts-more, inside-of, enter-is, body-for-is, leaf-first, leaf-later, counts-none, counts-first}
 -- Each uncovered part of a term is one term, and a sound Leaf gives its variables bodies.
 pub use Rattle.tree.proofs.TermParts.{part-root, AllTerms, terms-root, terms-entered, leaf-terms, length-counts}
--- Where compiling is done, the output is the tree of an accepted book and then zeros.
+-- Where compiling is done, the output is the tree of an accepted book and then zeros, and the length said is the tree's.
 pub use Rattle.tree.proofs.CompiledDone.{TreeMade, done-made}
--- The promise of compiling settles the answer and every lent word.
+-- The promise of compiling settles the answer, the length and every lent word.
 pub use Rattle.tree.proofs.Settled.{CompilePromised, compile-settled}
+-- Compiling, judgement by judgement: a bad book, a tree with room, and what is left of a refusal.
+pub use Rattle.tree.proofs.Judgements.{compile-answer, compile-bad-book, compile-writes, compile-zeros}

@@ -73,4 +73,5 @@ mod TestRuns
 mod TreeRuns
 mod CompiledDone
 mod Computed
+mod Judgements
 pub mod Laws

@@ -30,8 +30,16 @@ abbrev pub compiledWords : ℕ → List ℕ → Checked → List ℕ
 compiledWords room book Good = pick (hasRoom room (treeWords book)) (padded room (treeWords book)) (replicate room 0)
 compiledWords room book (Bad at) = replicate room 0
 
+-- how many of the words are the tree's; 0 where there is none
+abbrev pub compiledLength : ℕ → List ℕ → Checked → ℕ
+compiledLength room book Good = pick (hasRoom room (treeWords book)) (length (treeWords book)) 0
+compiledLength room book (Bad at) = 0
+
 unfoldable pub compileAnswer : ℕ → List ℕ → Answer
 compileAnswer room book = compiledAnswer room book (checkBook book)
 
 unfoldable pub compileWords : ℕ → List ℕ → List ℕ
 compileWords room book = compiledWords room book (checkBook book)
+
+unfoldable pub compileLength : ℕ → List ℕ → ℕ
+compileLength room book = compiledLength room book (checkBook book)

@@ -4,7 +4,7 @@ ghost use Prim.Native.Nat.{_-_};
 ghost use lib.ListN.{length, replicate};
 ghost use Rattle.term.specs.declared.check.Checked.the-variants.{Good};
 ghost use Rattle.book.specs.Book.{checkBook};
-ghost use Rattle.tree.specs.Compiled.{compiledAnswer, compiledWords, compileAnswer, compileWords};
+ghost use Rattle.tree.specs.Compiled.{compiledAnswer, compiledWords, compiledLength, compileAnswer, compileWords, compileLength};
 use crate::load::load;
 use crate::nodes::tree_of;
 use crate::table::FIXED;
@@ -18,6 +18,15 @@ use term::renumber::Step;
 
 // A tree has at most so many words.
 const MOST_TREE: usize = 16384;
+
+// How many words are said where there is no tree.
+const NO_WORDS: u32 = 0;
+
+// The answer, and how many words the tree has; 0 where there is none.
+pub struct Compiled {
+    pub answer: Answer,
+    pub words: u32,
+}
 
 // The room for a tree.
 fn limit_of(room: usize) -> usize
@@ -36,11 +45,12 @@ fn compile_good(
     nums: &mut [u32],
     marks: &mut [u32],
     out: &mut [u32],
-) -> Answer
+) -> Compiled
     requires { ⌜ (checkBook (now book) ≡ Good) × (now fixed ≡ replicate 8256 0) × (now nums ≡ replicate 4096 0) × (now marks ≡ replicate 12352 0)
         × (now out ≡ replicate (length (now out)) 0) ⌝ }
-    ensures { λ r. ⌜ (r ≡ compiledAnswer (length (now (out .entry))) (now (book .entry)) Good)
-        × (now (out .exit) ≡ compiledWords (length (now (out .entry))) (now (book .entry)) Good) ⌝ }
+    ensures { λ r. ⌜ (r .answer ≡ compiledAnswer (length (now (out .entry))) (now (book .entry)) Good)
+        × (now (out .exit) ≡ compiledWords (length (now (out .entry))) (now (book .entry)) Good)
+        × (r .words ≡ compiledLength (length (now (out .entry))) (now (book .entry)) Good) ⌝ }
 {
     load(book, fixed, nums, marks);
     let limit = limit_of(out.len());
@@ -48,25 +58,38 @@ fn compile_good(
         Step::Done(end) => {
             if limit < end {
                 clear(out);
-                return Answer::Short;
+                return Compiled {
+                    answer: Answer::Short,
+                    words: NO_WORDS,
+                };
             }
-            Answer::Done
+            Compiled {
+                answer: Answer::Done,
+                words: end as u32,
+            }
         }
         Step::Stuck => {
             clear(out);
-            Answer::Short
+            Compiled {
+                answer: Answer::Short,
+                words: NO_WORDS,
+            }
         }
     }
 }
 
 // Writes the tree of a book.
-pub fn compile(book: &[u32], out: &mut [u32]) -> Answer
-    ensures { λ r. ⌜ (r ≡ compileAnswer (length (now (out .entry))) (now (book .entry)))
-        × (now (out .exit) ≡ compileWords (length (now (out .entry))) (now (book .entry))) ⌝ }
+pub fn compile(book: &[u32], out: &mut [u32]) -> Compiled
+    ensures { λ r. ⌜ (r .answer ≡ compileAnswer (length (now (out .entry))) (now (book .entry)))
+        × (now (out .exit) ≡ compileWords (length (now (out .entry))) (now (book .entry)))
+        × (r .words ≡ compileLength (length (now (out .entry))) (now (book .entry))) ⌝ }
 {
     clear(out);
     if let Checked::Bad(at) = check_book(book) {
-        return Answer::BadBook(at);
+        return Compiled {
+            answer: Answer::BadBook(at),
+            words: NO_WORDS,
+        };
     }
     let mut fixed = [0u32; FIXED];
     let mut nums = [0u32; SPOTS];

@@ -68,14 +68,16 @@ fn walk_b(tree: &[u32]) {
 
 pub fn book_a() {
     let mut tree = [BEFORE; 51];
-    let answer = compile(&BOOK_A, &mut tree);
+    let done = compile(&BOOK_A, &mut tree);
+    let answer = done.answer;
     answered(b"book A's tree", answer, &tree);
     walk_a(&tree);
 }
 
 pub fn book_b() {
     let mut tree = [BEFORE; 64];
-    let answer = compile(&BOOK_B, &mut tree);
+    let done = compile(&BOOK_B, &mut tree);
+    let answer = done.answer;
     answered(b"book B's tree and zeros", answer, &tree);
     walk_b(&tree);
 }

@@ -7,7 +7,8 @@ use tree::compile::compile;
 const BEFORE: u32 = 7;
 
 fn compiled(name: &[u8], book: &[u32], tree: &mut [u32]) {
-    let answer = compile(book, tree);
+    let done = compile(book, tree);
+    let answer = done.answer;
     answered(name, answer, tree);
 }
 

@@ -12,7 +12,8 @@ const BEFORE: u32 = 7;
 const MOST: usize = 16384;
 
 fn compiled(name: &[u8], book: &[u32], tree: &mut [u32]) {
-    let answer = compile(book, tree);
+    let done = compile(book, tree);
+    let answer = done.answer;
     answered(name, answer, &[]);
 }
 

@@ -16,11 +16,11 @@ walked-none NoneFits bodies lengths b = (refl, b .1, b .2)
 walked-none (RuleFits f n) bodies lengths b = let z : found.None ≡ found.Rule (f .number) = b .0 in never (cc)
 walked-none (DamagedAt at) bodies lengths b = let z : found.None ≡ found.Damaged at = b .0 in never (cc)
 
-pub walked-damaged : (w : Walked) (address : ℕ) (bodies lengths : List ℕ) → BookWalked w (found.Damaged address) bodies lengths → w ≡ DamagedAt address
+pub walked-damaged : (w : Walked) (address : ℕ) (bodies lengths : List ℕ) → BookWalked w (found.Damaged address) bodies lengths → (w ≡ DamagedAt address) × (bodies ≡ replicate 65536 0) × (lengths ≡ replicate 16 0)
 unfolding BookWalked
 walked-damaged NoneFits address bodies lengths b = let z : found.Damaged address ≡ found.None = b .0 in never (cc)
 walked-damaged (RuleFits f n) address bodies lengths b = let z : found.Damaged address ≡ found.Rule (f .number) = b .0 in never (cc)
-walked-damaged (DamagedAt at) address bodies lengths b = let z : found.Damaged address ≡ found.Damaged at = b .0 in let y : at ≡ address = cc in ap DamagedAt y
+walked-damaged (DamagedAt at) address bodies lengths b = let z : found.Damaged address ≡ found.Damaged at = b .0 in let y : at ≡ address = cc in (ap DamagedAt y, b .1, b .2)
 
 pub walked-rule : (w : Walked) (number : ℕ) (bodies lengths : List ℕ) → BookWalked w (found.Rule number) bodies lengths
     → (f : Fitting) × (n : ℕ) × (w ≡ RuleFits f n) × (number ≡ f .number) × (bodies ≡ bodyList (f .bodies) 0 n ++ replicate (65536 - length (bodyList (f .bodies) 0 n)) 0)

@@ -1,47 +1,21 @@
--- Document 01's P1 to P10 and its kinds of damage, computed from the definitions.
+-- Document 01's kinds of damage, computed from the definitions.
 use mathlib.Core.Path.{_≡_, refl}
 use mathlib.Core.Bool.{Bool}
 use mathlib.Core.List.{List, [], _∷_}
 use Prim.Native.Nat.{ℕ}
-use Rattle.term.specs.Word.{symbol, abstraction, variable, pattern, word, kind, count, ident, headOf, headWith}
+use Rattle.term.specs.Word.{word, kind, count, ident, headOf, headWith}
 use Rattle.term.specs.Row.{words, read, firsts, others}
 use Rattle.term.specs.Renumber.{position, listed, goodList, idBody, inside, renumberHead, renumber, namedHead, named, closed, toBody}
 use Rattle.term.specs.Part.{sameWords}
 use Rattle.book.specs.Rule.{idsOf, counted}
 use Rattle.book.specs.Book.{ruleOf, nthRule, ruleAt}
+use Rattle.book.specs.Marked.{s, l, v, m, bookA}
 use Rattle.fit.specs.Left.{leftOf}
-use Rattle.fit.specs.Constraint.{childrenOf, isHead, occurrences, closeds, firstOf, sames, constraints, bodyHere}
+use Rattle.fit.specs.Constraint.{childrenOf, isHead, bodyHere}
 use Rattle.fit.specs.Match.{treeOf, leftIn, bodyList}
 use Rattle.tree.specs.Tree.{countsOf}
-use Rattle.tree.specs.Path.{placeNumbered, numberIn, childrenFrom, marked, enter}
-use Rattle.tree.specs.Rows.{sub, below, subsUnder, subAt, headAt, lowestOpen, isIn, among, sameConstraint, has, unstruck, constraintsLeft, wordsOf, wordsLeft, size}
-use Rattle.tree.specs.Compile.{without, heads, caseRows, defaultRows, entering, holding, rowsWithout, testOf, variablesFrom, leafOf, casesOf, nodeOf, step, compileBy, compile, bookRows, bookTree}
 use Rattle.tree.specs.Find.{partOf, markedPart, childParts, insideOf, enterPart, bodyFor, leafBody}
-use Rattle.tree.specs.Layout.{variableWords, caseCount, long, longCases, caseHeads, layout, layoutCases}
-use Rattle.tree.specs.Compiled.{treeWords}
 use Rattle.walk.specs.Walk.{Walked, NoneFits, RuleFits, DamagedAt, goTo, variablesIn, soundVariable, soundVariables, leafNode, isWord, caseOf, switchNode, closedNode, sameNode, nodeAt, nextAt, walkBy, walkFrom, walk, countsFit, bookFits, noBook}
-
-s : ℕ → ℕ → ℕ
-s i c = word (symbol i c)
-
-l : ℕ
-l = word abstraction
-
-v : ℕ → ℕ
-v i = word (variable i)
-
-m : ℕ → ℕ → ℕ
-m i c = word (pattern i c)
-
-bookA : List ℕ
-bookA = 3
-    ∷ 1 ∷ 3 ∷ 1 ∷ s 2 2 ∷ m 0 0 ∷ m 0 0 ∷ m 0 0
-    ∷ 1 ∷ 3 ∷ 1 ∷ s 3 1 ∷ l ∷ m 0 0 ∷ m 0 0
-    ∷ 1 ∷ 5 ∷ 5 ∷ s 3 1 ∷ l ∷ s 4 1 ∷ m 0 1 ∷ v 1 ∷ s 4 1 ∷ s 3 1 ∷ l ∷ m 0 1 ∷ v 1
-    ∷ []
-
-bookB : List ℕ
-bookB = 1 ∷ 1 ∷ 8 ∷ 1 ∷ s 6 2 ∷ l ∷ m 0 1 ∷ v 1 ∷ l ∷ l ∷ m 0 1 ∷ v 2 ∷ s 7 0 ∷ []
 
 -- how a walk ends: the rule and its bodies in words; the address of a damaged node
 pub data Seen : Type 0 where
@@ -56,26 +30,6 @@ seen (DamagedAt at) = damage at
 
 abbrev walked : (ℕ → List ℕ → Bool) → List ℕ → List ℕ → Seen
 walked fits table ws = seen (walk fits table (treeOf ws))
-
--- P1 to P6
-marked-A :
-    (walked noBook (treeWords bookA) (s 2 2 ∷ s 7 0 ∷ s 7 0 ∷ []) ≡ rule 0 (s 7 0 ∷ []))
-    × (walked noBook (treeWords bookA) (s 2 2 ∷ s 7 0 ∷ s 8 0 ∷ []) ≡ nothing-fits)
-    × (walked noBook (treeWords bookA) (s 3 1 ∷ l ∷ v 2 ∷ []) ≡ rule 1 (v 1 ∷ []))
-    × (walked noBook (treeWords bookA) (s 3 1 ∷ l ∷ v 1 ∷ []) ≡ nothing-fits)
-    × (walked noBook (treeWords bookA) (s 3 1 ∷ l ∷ s 4 1 ∷ v 1 ∷ []) ≡ rule 2 (v 1 ∷ []))
-    × (walked noBook (treeWords bookA) (s 3 1 ∷ l ∷ s 4 1 ∷ s 7 0 ∷ []) ≡ rule 1 (s 4 1 ∷ s 7 0 ∷ []))
-unfolding word kind count ident headOf headWith words read firsts others position listed goodList inside idBody renumberHead renumber namedHead named closed toBody sameWords idsOf counted ruleOf nthRule ruleAt leftOf childrenOf isHead bodyHere occurrences closeds firstOf sames constraints treeOf leftIn bodyList countsOf placeNumbered numberIn childrenFrom marked enter sub below subsUnder subAt headAt lowestOpen isIn among sameConstraint has unstruck constraintsLeft wordsOf wordsLeft size without heads caseRows defaultRows entering holding rowsWithout testOf variablesFrom leafOf casesOf nodeOf step compileBy compile bookRows bookTree partOf markedPart childParts insideOf enterPart bodyFor leafBody variableWords caseCount long longCases caseHeads layout layoutCases treeWords goTo variablesIn soundVariable soundVariables leafNode isWord caseOf switchNode closedNode sameNode nodeAt nextAt walkBy walkFrom walk countsFit bookFits noBook s l v m bookA
-marked-A = (refl, refl, refl, refl, refl, refl)
-
--- P7 to P10
-marked-B :
-    (walked noBook (treeWords bookB) (s 6 2 ∷ l ∷ v 1 ∷ l ∷ l ∷ v 2 ∷ []) ≡ rule 0 (v 1 ∷ []))
-    × (walked noBook (treeWords bookB) (s 6 2 ∷ l ∷ v 1 ∷ l ∷ l ∷ v 1 ∷ []) ≡ nothing-fits)
-    × (walked noBook (treeWords bookB) (s 6 2 ∷ l ∷ v 2 ∷ l ∷ l ∷ v 3 ∷ []) ≡ rule 0 (v 2 ∷ []))
-    × (walked noBook (treeWords bookB) (s 6 2 ∷ l ∷ v 2 ∷ l ∷ l ∷ v 2 ∷ []) ≡ nothing-fits)
-unfolding word kind count ident headOf headWith words read firsts others position listed goodList inside idBody renumberHead renumber namedHead named closed toBody sameWords idsOf counted ruleOf nthRule ruleAt leftOf childrenOf isHead bodyHere occurrences closeds firstOf sames constraints treeOf leftIn bodyList countsOf placeNumbered numberIn childrenFrom marked enter sub below subsUnder subAt headAt lowestOpen isIn among sameConstraint has unstruck constraintsLeft wordsOf wordsLeft size without heads caseRows defaultRows entering holding rowsWithout testOf variablesFrom leafOf casesOf nodeOf step compileBy compile bookRows bookTree partOf markedPart childParts insideOf enterPart bodyFor leafBody variableWords caseCount long longCases caseHeads layout layoutCases treeWords goTo variablesIn soundVariable soundVariables leafNode isWord caseOf switchNode closedNode sameNode nodeAt nextAt walkBy walkFrom walk countsFit bookFits noBook s l v m bookB
-marked-B = (refl, refl, refl, refl)
 
 term7 : List ℕ
 term7 = s 3 1 ∷ s 7 0 ∷ []
@@ -112,7 +66,7 @@ damages :
     -- "or one of its parts has no body"
     × (walked noBook (2 ∷ 0 ∷ 1 ∷ l ∷ 6 ∷ 6 ∷ 1 ∷ 0 ∷ 1 ∷ 1 ∷ 0 ∷ []) term-l ≡ damage 6)
     × (walked noBook (2 ∷ 0 ∷ 1 ∷ l ∷ 6 ∷ 6 ∷ 1 ∷ 0 ∷ 1 ∷ 1 ∷ 1 ∷ 1 ∷ []) term-l ≡ rule 0 (v 1 ∷ []))
-unfolding word kind count ident headOf headWith words read firsts others position listed goodList inside idBody renumberHead renumber namedHead named closed toBody sameWords idsOf counted ruleOf nthRule ruleAt leftOf childrenOf isHead bodyHere occurrences closeds firstOf sames constraints treeOf leftIn bodyList countsOf placeNumbered numberIn childrenFrom marked enter sub below subsUnder subAt headAt lowestOpen isIn among sameConstraint has unstruck constraintsLeft wordsOf wordsLeft size without heads caseRows defaultRows entering holding rowsWithout testOf variablesFrom leafOf casesOf nodeOf step compileBy compile bookRows bookTree partOf markedPart childParts insideOf enterPart bodyFor leafBody variableWords caseCount long longCases caseHeads layout layoutCases treeWords goTo variablesIn soundVariable soundVariables leafNode isWord caseOf switchNode closedNode sameNode nodeAt nextAt walkBy walkFrom walk countsFit bookFits noBook s l v m term7 term-l
+unfolding word kind count ident headOf headWith words read firsts others position listed goodList inside idBody renumberHead renumber namedHead named closed toBody sameWords idsOf counted ruleOf nthRule ruleAt leftOf childrenOf isHead bodyHere treeOf leftIn bodyList countsOf partOf markedPart childParts insideOf enterPart bodyFor leafBody goTo variablesIn soundVariable soundVariables leafNode isWord caseOf switchNode closedNode sameNode nodeAt nextAt walkBy walkFrom walk countsFit bookFits noBook s l v m term7 term-l
 damages = (refl, refl, refl, refl, refl, refl, refl, refl, refl, refl, refl, refl, refl, refl, refl)
 
 -- "Where a book is given too, a Leaf whose rule, n or counts don't fit it is damaged."
@@ -121,5 +75,5 @@ damages-A :
     × (walked (bookFits bookA) (1 ∷ 0 ∷ 0 ∷ []) term7 ≡ damage 0)
     × (walked (bookFits bookA) (1 ∷ 2 ∷ 1 ∷ 0 ∷ 0 ∷ []) term7 ≡ damage 0)
     × (walked (bookFits bookA) (1 ∷ 0 ∷ 1 ∷ 0 ∷ 0 ∷ []) term7 ≡ rule 0 (s 3 1 ∷ s 7 0 ∷ []))
-unfolding word kind count ident headOf headWith words read firsts others position listed goodList inside idBody renumberHead renumber namedHead named closed toBody sameWords idsOf counted ruleOf nthRule ruleAt leftOf childrenOf isHead bodyHere occurrences closeds firstOf sames constraints treeOf leftIn bodyList countsOf placeNumbered numberIn childrenFrom marked enter sub below subsUnder subAt headAt lowestOpen isIn among sameConstraint has unstruck constraintsLeft wordsOf wordsLeft size without heads caseRows defaultRows entering holding rowsWithout testOf variablesFrom leafOf casesOf nodeOf step compileBy compile bookRows bookTree partOf markedPart childParts insideOf enterPart bodyFor leafBody variableWords caseCount long longCases caseHeads layout layoutCases treeWords goTo variablesIn soundVariable soundVariables leafNode isWord caseOf switchNode closedNode sameNode nodeAt nextAt walkBy walkFrom walk countsFit bookFits noBook s l v m bookA term7
+unfolding word kind count ident headOf headWith words read firsts others position listed goodList inside idBody renumberHead renumber namedHead named closed toBody sameWords idsOf counted ruleOf nthRule ruleAt leftOf childrenOf isHead bodyHere treeOf leftIn bodyList countsOf partOf markedPart childParts insideOf enterPart bodyFor leafBody goTo variablesIn soundVariable soundVariables leafNode isWord caseOf switchNode closedNode sameNode nodeAt nextAt walkBy walkFrom walk countsFit bookFits noBook s l v m bookA term7
 damages-A = (refl, refl, refl, refl)

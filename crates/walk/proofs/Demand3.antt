@@ -49,9 +49,24 @@ module _ (book : List ℕ) (accepted : checkBook book ≡ Good) (ws : List ℕ) 
     },
   )
 
-module _ (book : List ℕ) (treeRoom : ℕ) (done : compileAnswer treeRoom book ≡ Done) (small : treeRoom ≤ 16384) (ws : List ℕ) (good : check termLimits ws ≡ Good) where
+-- ---- what compiling leaves begins with the book's tree, and is within a tree's words where its room is
+module _ (book : List ℕ) (treeRoom : ℕ) (done : compileAnswer treeRoom book ≡ Done) where
   abbrev made : TreeMade treeRoom book
   made = done-made treeRoom book done
+
+  abbrev zeros : List ℕ
+  zeros = replicate (treeRoom - length (treeWords book)) 0
+
+  pub compiled-lies : Lies (compileWords treeRoom book) 0 (bookTree book)
+  compiled-lies = (zeros, made .words ∙ ap (_++ zeros) (tree-words book))
+
+  pub compiled-short : treeRoom ≤ 16384 → length (compileWords treeRoom book) ≤ 16384
+  compiled-short small =
+      omega (arith, small, ap length (made .words), length-append (treeWords book) zeros, length-replicate {A = ℕ} (treeRoom - length (treeWords book)) 0, made .fits)
+
+module _ (book : List ℕ) (treeRoom : ℕ) (done : compileAnswer treeRoom book ≡ Done) (small : treeRoom ≤ 16384) (ws : List ℕ) (good : check termLimits ws ≡ Good) where
+  accepted : checkBook book ≡ Good
+  accepted = done-made treeRoom book done .accepted
 
   abbrev term : IsTerm ws
   term = good-tree termLimits (omega arith) ws good
@@ -59,18 +74,8 @@ module _ (book : List ℕ) (treeRoom : ℕ) (done : compileAnswer treeRoom book 
   abbrev best : Option Fitting
   best = lowest book 0 (getD book 0 0) (term .tree)
 
-  abbrev zeros : List ℕ
-  zeros = replicate (treeRoom - length (treeWords book)) 0
-
-  short : length (compileWords treeRoom book) ≤ 16384
-  short =
-      omega (arith, ap length (made .words), length-append (treeWords book) zeros, length-replicate {A = ℕ} (treeRoom - length (treeWords book)) 0, made .fits)
-
-  lies : Lies (compileWords treeRoom book) 0 (bookTree book)
-  lies = (zeros, made .words ∙ ap (_++ zeros) (tree-words book))
-
   walked : walk noBook (compileWords treeRoom book) (treeOf ws) ≡ walkedOf (varsIn book) best
-  walked = rw (tree-of termLimits ws term) (begun-alone book (made .accepted) (term .tree) (term .formed) (term .one) (compileWords treeRoom book) short lies)
+  walked = rw (tree-of termLimits ws term) (begun-alone book accepted (term .tree) (term .formed) (term .one) (compileWords treeRoom book) (compiled-short book treeRoom done small) (compiled-lies book treeRoom done))
 
   module _ (room : ℕ) (r : TreeMatch) (bodies lengths : List ℕ) (promised : Promised room (compileWords treeRoom book) ws r bodies lengths) where
     matched : (o : Option Fitting) → best ≡ o → matchTree (compileWords treeRoom book) ws ≡ walkedMatch (walkedOf (varsIn book) o)
@@ -152,12 +157,12 @@ module _ (book : List ℕ) (treeRoom : ℕ) (done : compileAnswer treeRoom book 
 
     -- THE THEOREM
     pub tree-finds : TreeFinds book ws room r bodies lengths
-    tree-finds = go best refl (book-lowest book (made .accepted) ws term)
+    tree-finds = go best refl (book-lowest book accepted ws term)
       where
         go : (o : Option Fitting) → best ≡ o → LowestIs book 0 (getD book 0 0) (term .tree) o → TreeFinds book ws room r bodies lengths
         go none e l = finds-none e l
         go (some f) e l =
-            let k = lowest-fit book (made .accepted) ws term f (lowest-some book 0 (getD book 0 0) (term .tree) f l) in
+            let k = lowest-fit book accepted ws term f (lowest-some book 0 (getD book 0 0) (term .tree) f l) in
             record {
               none-fits = λ z. absurd (not-none f e (k .0) (k .1) z);
               none-said = λ n. absurd (n (f .number) (k .0) (k .1 .is) (f .bodies) (k .1 .fits));

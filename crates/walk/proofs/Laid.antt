@@ -19,7 +19,7 @@ use Rattle.tree.specs.Tree.{Tree}
 use Rattle.tree.specs.Compile.{bookTree}
 use Rattle.tree.specs.Find.{PartAt, rootPart, partOf, enterPart, bodyFor, leafBody}
 use Rattle.tree.specs.Layout.{layout}
-use Rattle.tree.proofs.Laws.{Lies, lies-inside, whole-lies, switch-lies, closed-lies, same-lies, Walks, fails, ends, takes, defaults, closedYes, closedNo, sameYes, sameNo, CountsAre, varsIn, FitsBook, book-walks}
+use Rattle.tree.proofs.Laws.{Lies, lies-inside, switch-lies, closed-lies, same-lies, Walks, fails, ends, takes, defaults, closedYes, closedNo, sameYes, sameNo, CountsAre, varsIn, FitsBook, book-walks}
 use Rattle.walk.specs.Walk.{Walked, NoneFits, RuleFits, Next, Ends, Goes, goTo, nextAt, follow, walkFrom, walk, countsFit, bookFits, noBook}
 use Rattle.walk.proofs.Nodes.{goes, next-fail, next-leaf, case-taken, next-case, next-default, next-closed, next-same}
 use Rattle.walk.proofs.Steps.{walk-is}
@@ -103,11 +103,3 @@ module _ (book : List ℕ) (accepted : checkBook book ≡ Good) (t : Row) (forme
   -- with the book given too
   pub begun-with : (table : List ℕ) → length table ≤ 16384 → Lies table 0 (bookTree book) → walk (bookFits book) table t ≡ walkedOf (varsIn book) (lowest book 0 (getD book 0 0) t)
   begun-with = begun (bookFits book) (book-given book)
-
--- the layout alone
-module _ (book : List ℕ) (accepted : checkBook book ≡ Good) (short : length (layout 0 (bookTree book)) ≤ 16384) (t : Row) (formed : Formed t) (one : width t ≡ 1) where
-  pub walked-alone : walk noBook (layout 0 (bookTree book)) t ≡ walkedOf (varsIn book) (lowest book 0 (getD book 0 0) t)
-  walked-alone = begun-alone book accepted t formed one (layout 0 (bookTree book)) short (whole-lies (bookTree book))
-
-  pub walked-with : walk (bookFits book) (layout 0 (bookTree book)) t ≡ walkedOf (varsIn book) (lowest book 0 (getD book 0 0) t)
-  walked-with = begun-with book accepted t formed one (layout 0 (bookTree book)) short (whole-lies (bookTree book))

@@ -5,10 +5,10 @@ pub use Rattle.walk.proofs.Steps.{Later, later-next, walk-is}
 -- No more places are uncovered than the term has words.
 pub use Rattle.walk.proofs.Places.{Keeps, keeps-next}
 -- Over a layout the walk is the walk of the tree and never damaged; over the layout of an accepted book's tree it finds the lowest rule that fits.
-pub use Rattle.walk.proofs.Laid.{walkedOf, walk-laid, begun-alone, begun-with, walked-alone, walked-with}
--- Demand 3: matching by the compiled tree finds the lowest rule that fits, with its bodies.
-pub use Rattle.walk.proofs.Demand.{best, tree-match, tree-rule, best-is}
--- The same of what compiling and matching answer and leave, said without trees.
+pub use Rattle.walk.proofs.Laid.{walkedOf, walk-laid, begun-alone, begun-with}
+-- What compiling leaves begins with the book's tree, and is within a tree's words where its room is.
+pub use Rattle.walk.proofs.Demand3.{compiled-lies, compiled-short}
+-- Demand 3, of what compiling and matching answer and leave, said without trees: the lowest rule that fits, with the only bodies.
 pub use Rattle.walk.proofs.Demand3.{tree-finds}
 -- The promise of matching by the tree settles its answer, its rule and every lent word.
 pub use Rattle.walk.proofs.Answers.{Promised, match-settled}
@@ -26,3 +26,5 @@ pub use Rattle.walk.proofs.Uncovered.{from-stands}
 pub use Rattle.walk.proofs.BookAnswers.{walked-none, walked-damaged, walked-rule}
 -- The promise of the walk with a book settles its answer and every lent word.
 pub use Rattle.walk.proofs.BookEnds.{book-settled}
+-- Matching by the tree, judgement by judgement: the term, and then the walk.
+pub use Rattle.walk.proofs.Judgements.{tree-bad-term, tree-walked}

@@ -17,7 +17,7 @@ mod BookLeaf
 mod BookEnds
 mod BookAnswers
 mod Laid
-mod Demand
 mod Demand3
 mod Computed
+mod Judgements
 pub mod Laws

@@ -1,0 +1,100 @@
+-- Matching one rule and building a left side, judgement by judgement: the book, the rule, then the term or the lengths and the bodies. Each is one line of a definition.
+use mathlib.Core.Path.{_≡_, refl, ap, _∙_}
+use mathlib.Core.Bool.{Bool, true, false}
+use mathlib.Core.List.{List, _++_}
+use mathlib.Core.Option.{none, some}
+use Prim.Native.Nat.{ℕ, _-_, _≤_, _<_}
+use native.Mathlib.Omega.{arith}
+use lib.Dec.{leb}
+use lib.ListN.{length, replicate}
+use borrow.Author.Tests.{leb-false}
+use Rattle.term.specs.declared.check.Checked.the-variants.{Good, Bad}
+use Rattle.term.specs.declared.answer.Answer.the-variants.{Done, BadTerm, BadBook, Short, NoRule}
+use Rattle.term.specs.Answer.{numberOf}
+use Rattle.term.specs.Word.{pick}
+use Rattle.term.specs.Row.{Row}
+use Rattle.term.specs.Check.{check, termLimits}
+use Rattle.term.proofs.Laws.{padded-short}
+use Rattle.book.specs.Book.{Rule, checkBook, ruleAt}
+use Rattle.book.proofs.Laws.{book-rule}
+use Rattle.fit.specs.Fit.{build, IsBody, matching}
+use Rattle.fit.specs.Match.{treeOf, leftIn, bodyList, lengthList, Matched, refused, fitted, fittedO, matchRule, matchAnswer, matchWords, matchLengths}
+use Rattle.fit.specs.Build as building
+use Rattle.fit.specs.Build.{givenBodies, goodLengths, checkBodies, limited, buildLeft}
+use Rattle.fit.proofs.Accepted.{accepted-good}
+use Rattle.fit.proofs.BodyLists.{list-lengths, list-words, list-bodies}
+use Rattle.fit.proofs.RoundTrip.{build-agree, body-good, body-tree}
+
+-- ---- matching one rule
+module _ (book : List ℕ) (number : ℕ) (ws : List ℕ) where
+  pub match-bad-book : (at : ℕ) → checkBook book ≡ Bad at → matchRule book number ws ≡ refused (BadBook at)
+  unfolding matchRule
+  match-bad-book at e = rw e
+
+  pub match-no-rule : checkBook book ≡ Good → ruleAt book number ≡ none → matchRule book number ws ≡ refused (NoRule number)
+  unfolding matchRule
+  match-no-rule g e = rw (g, e)
+
+  module _ (good : checkBook book ≡ Good) (rule : Rule) (found : ruleAt book number ≡ some rule) where
+    pub match-bad-term : (at : ℕ) → check termLimits ws ≡ Bad at → matchRule book number ws ≡ refused (BadTerm at)
+    unfolding matchRule
+    match-bad-term at e = rw (good, found, e)
+
+    pub match-one-rule : check termLimits ws ≡ Good → matchRule book number ws ≡ fittedO (rule .vars) (matching (leftIn rule) (treeOf ws))
+    unfolding matchRule
+    match-one-rule e = rw (good, found, e)
+
+-- a refusal leaves zeros
+pub match-zeros : (room : ℕ) (m : Matched) → 10 ≤ numberOf (matchAnswer room m) → (matchWords room m ≡ replicate room 0) × (matchLengths room m ≡ replicate 16 0)
+unfolding matchAnswer matchWords matchLengths
+match-zeros room (refused a) h = (refl, refl)
+match-zeros room (fitted vars b) h = go (leb (length (bodyList b 0 vars)) room) refl h
+  where
+    go : (c : Bool) → leb (length (bodyList b 0 vars)) room ≡ c → 10 ≤ numberOf (pick c Done Short)
+        → (matchWords room (fitted vars b) ≡ replicate room 0) × (matchLengths room (fitted vars b) ≡ replicate 16 0)
+    go true e k = absurd (omega (arith, k))
+    go false e k = (padded-short room (bodyList b 0 vars) (leb-false (length (bodyList b 0 vars)) room e), rw e)
+
+-- ---- building a left side
+module _ (book : List ℕ) (number : ℕ) (bodies lengths : List ℕ) where
+  pub build-bad-book : (at : ℕ) → checkBook book ≡ Bad at → buildLeft book number bodies lengths ≡ building.refused (BadBook at)
+  unfolding buildLeft
+  build-bad-book at e = rw e
+
+  pub build-no-rule : checkBook book ≡ Good → ruleAt book number ≡ none → buildLeft book number bodies lengths ≡ building.refused (NoRule number)
+  unfolding buildLeft
+  build-no-rule g e = rw (g, e)
+
+  module _ (good : checkBook book ≡ Good) (rule : Rule) (found : ruleAt book number ≡ some rule) where
+    pub build-bad-lengths : goodLengths (rule .vars) bodies lengths ≡ false → buildLeft book number bodies lengths ≡ building.refused (BadTerm 16)
+    unfolding buildLeft
+    build-bad-lengths e = rw (good, found, e)
+
+    pub build-bad-body : goodLengths (rule .vars) bodies lengths ≡ true → (x : ℕ) → checkBodies bodies lengths 0 (rule .vars) ≡ Bad x → buildLeft book number bodies lengths ≡ building.refused (BadTerm x)
+    unfolding buildLeft
+    build-bad-body l x e = rw (good, found, l, e)
+
+    pub build-from : goodLengths (rule .vars) bodies lengths ≡ true → checkBodies bodies lengths 0 (rule .vars) ≡ Good
+        → buildLeft book number bodies lengths ≡ limited (build (givenBodies bodies lengths) 0 (leftIn rule))
+    unfolding buildLeft
+    build-from l e = rw (good, found, l, e)
+
+-- bodies in variable order, with their lengths, build what they turn the left side into
+module _ (book : List ℕ) (number : ℕ) (rule : Rule) (good : checkBook book ≡ Good) (found : ruleAt book number ≡ some rule) (b : ℕ → Row) (terms : (x : ℕ) → x < rule .vars → IsBody (b x)) where
+  abbrev bodies : List ℕ
+  bodies = bodyList b 0 (rule .vars)
+
+  abbrev lengths : List ℕ
+  lengths = lengthList b 0 (rule .vars) ++ replicate (16 - rule .vars) 0
+
+  few : rule .vars ≤ 16
+  few = book-rule book number rule good found .few
+
+  given-back : (x : ℕ) → x < rule .vars → givenBodies bodies lengths x ≡ b x
+  unfolding givenBodies
+  given-back x h = ap treeOf (list-words (rule .vars) b few x h) ∙ body-tree (b x) (terms x h)
+
+  pub build-given : buildLeft book number (bodyList b 0 (rule .vars)) (lengthList b 0 (rule .vars) ++ replicate (16 - rule .vars) 0) ≡ limited (build b 0 (leftIn rule))
+  build-given =
+      build-from book number bodies lengths good rule found (list-lengths (rule .vars) b few) (list-bodies (rule .vars) b few (λ x h. body-good (b x) (terms x h)))
+      ∙ ap limited (build-agree (rule .vars) (givenBodies bodies lengths) b given-back 0 (leftIn rule) (accepted-good book good number rule found .good))
