@@ -4,13 +4,14 @@ use mathlib.Core.List.{List, [], _∷_}
 use Prim.Native.Nat.{ℕ, zero, suc}
 use Rattle.term.specs.declared.answer.Answer.{Answer}
 use Rattle.term.specs.declared.answer.Answer.the-variants.{Done, NoFit, BudgetUsed, BadTerm, BadBook, Short, Damaged, Over}
-use Rattle.term.specs.Word.{symbol, abstraction, variable, pattern, word, kind, count, ident, headOf, headWith}
+use Rattle.term.specs.Word.{word, kind, count, ident, headOf, headWith}
 use Rattle.term.specs.Row.{Row, words, width, kinds, nesting, read, firsts, others, _⧺_}
 use Rattle.term.specs.Check.{check, scan, settle, mayStand}
 use Rattle.term.specs.Renumber.{position, listed, goodList, idBody, idTerm, inside, renumberHead, renumber, namedHead, named, closed, toBody, toTerm}
 use Rattle.term.specs.Part.{sameWords, padded}
 use Rattle.book.specs.Rule.{idsOf, leftShape, rootSymbol, rightShape, counted, oneCount, allOccur, noOther, goodLeft, goodRight, goodRule}
 use Rattle.book.specs.Book.{ruleOf, judge, checkBook, nthRule, ruleAt}
+use Rattle.book.specs.Marked.{s, l, v, m, bookA}
 use Rattle.fit.specs.Left.{leftOf}
 use Rattle.fit.specs.Constraint.{tree, childrenOf, isHead, occurrences, closeds, firstOf, sames, constraints, bodyHere}
 use Rattle.fit.specs.Match.{treeOf, leftIn}
@@ -29,25 +30,6 @@ use Rattle.steps.specs.Rewrite.{rewritten, rewriteRoot, rootAnswer, root
 use Rattle.steps.specs.Offset.{partAt, spliced}
 use Rattle.steps.specs.Step.{seekRule, lowestOffset, wholeWithin, step}
 use Rattle.steps.specs.Simplify.{simplifyBy, simplify, simplifyAnswer, simplifyWords, simplifySteps}
-
-s : ℕ → ℕ → ℕ
-s i c = word (symbol i c)
-
-l : ℕ
-l = word abstraction
-
-v : ℕ → ℕ
-v i = word (variable i)
-
-m : ℕ → ℕ → ℕ
-m i c = word (pattern i c)
-
-bookA : List ℕ
-bookA = 3
-    ∷ 1 ∷ 3 ∷ 1 ∷ s 2 2 ∷ m 0 0 ∷ m 0 0 ∷ m 0 0
-    ∷ 1 ∷ 3 ∷ 1 ∷ s 3 1 ∷ l ∷ m 0 0 ∷ m 0 0
-    ∷ 1 ∷ 5 ∷ 5 ∷ s 3 1 ∷ l ∷ s 4 1 ∷ m 0 1 ∷ v 1 ∷ s 4 1 ∷ s 3 1 ∷ l ∷ m 0 1 ∷ v 1
-    ∷ []
 
 -- ---- right sides
 abbrev one-body : List ℕ → ℕ → Row

@@ -1,4 +1,4 @@
--- Demand 3 seen from here: with the tree compiled from an accepted book each step is at the lowest offset at which some rule fits at all, by the lowest rule that fits there.
+-- Demand 3 seen from here: with a table that begins with the tree of an accepted book, as what compiling leaves does, each step is at the lowest offset at which some rule fits at all, by the lowest rule that fits there.
 -- So simplifying is read without trees: rules, bodies, offsets and limits.
 use mathlib.Core.Path.{_≡_, refl, sym, ap, _∙_}
 use mathlib.Core.Bool.{Bool, true, false}
@@ -19,10 +19,10 @@ use Rattle.fit.specs.Fit.{IsBody}
 use Rattle.fit.specs.Lowest.{Fitting, lowest}
 use Rattle.fit.specs.Build.{withinLimits}
 use Rattle.fit.proofs.Laws.{tree-of, LowestIs, book-lowest}
-use Rattle.tree.specs.Compiled.{treeWords}
-use Rattle.tree.proofs.Laws.{varsIn, tree-words}
+use Rattle.tree.specs.Compile.{bookTree}
+use Rattle.tree.proofs.Laws.{Lies, varsIn}
 use Rattle.walk.specs.Walk.{NoneFits, RuleFits, DamagedAt, walk, bookFits}
-use Rattle.walk.proofs.Laws.{walkedOf, walked-with}
+use Rattle.walk.proofs.Laws.{walkedOf, begun-with}
 use Rattle.steps.specs.Rewrite.{rewritten, walkedRoot, rewriteRoot}
 use Rattle.steps.specs.Offset.{partAt, spliced}
 use Rattle.steps.specs.Step.{Sought, Nowhere, FoundAt, Broken, lowestOffset, Stepped, Rests, Becomes, Refused, wholeWithin, stepFound, step}
@@ -76,12 +76,13 @@ module _ (book : List ℕ) where
   Simplified budget t (Stopped n a) = (v : Row) × Reaches n t v × (n ≤ budget) × TooLarge budget n v a
   Simplified budget t (Ended n a v) = Reaches n t v × (n ≤ budget) × Rested budget n v a
 
-module _ (book : List ℕ) (accepted : checkBook book ≡ Good) (short : length (treeWords book) ≤ 16384) where
+-- ---- a table that begins with an accepted book's tree, whatever follows it
+module _ (book : List ℕ) (accepted : checkBook book ≡ Good) (table : List ℕ) (short : length table ≤ 16384) (lies : Lies table 0 (bookTree book)) where
   abbrev best : Row → Option Fitting
   best p = lowest book 0 (getD book 0 0) p
 
-  looks : (p : Row) → IsBody p → walk (bookFits book) (treeWords book) p ≡ walkedOf (varsIn book) (best p)
-  looks p i = rw (tree-words book) (walked-with book accepted (rw (tree-words book) at short) p (i .formed) (i .one))
+  looks : (p : Row) → IsBody p → walk (bookFits book) table p ≡ walkedOf (varsIn book) (best p)
+  looks p i = begun-with book accepted p (i .formed) (i .one) table short lies
 
   best-is : (p : Row) → IsBody p → LowestIs book 0 (getD book 0 0) p (best p)
   best-is p i = book-lowest book accepted (words p) (row-term p i)
@@ -100,12 +101,12 @@ module _ (book : List ℕ) (accepted : checkBook book ≡ Good) (short : length 
   never-damaged (some f) address e = never (cc)
 
   module _ (t : Row) (i : IsBody t) where
-    none-at : (k : ℕ) → k < length (words t) → walk (bookFits book) (treeWords book) (partAt t k) ≡ NoneFits → FitsAt book t k none
+    none-at : (k : ℕ) → k < length (words t) → walk (bookFits book) table (partAt t k) ≡ NoneFits → FitsAt book t k none
     none-at k l e =
         let p = part-term t i k l in
         rw (none-of (best (partAt t k)) (sym (looks (partAt t k) p) ∙ e)) at (best-is (partAt t k) p)
 
-    first-fit : (s : Sought) → SeekIs (walk (bookFits book) (treeWords book)) t 0 (length (words t)) s → FirstFit book t s
+    first-fit : (s : Sought) → SeekIs (walk (bookFits book) table) t 0 (length (words t)) s → FirstFit book t s
     first-fit Nowhere p = λ k l. none-at k l (p k (omega arith) l)
     first-fit (FoundAt at f) p =
         let q = part-term t i at (p .1 .inside) in (
@@ -118,10 +119,10 @@ module _ (book : List ℕ) (accepted : checkBook book ≡ Good) (short : length 
         never-damaged (best (partAt t (p .0))) address (sym (looks (partAt t (p .0)) q) ∙ p .1 .here)
 
     -- the walk is at the lowest offset at which some rule fits, with the lowest rule that fits there; it meets no damage
-    pub compiled-offset : FirstFit book t (lowestOffset book (treeWords book) t)
-    compiled-offset = first-fit (lowestOffset book (treeWords book) t) (lowest-offset-is book (treeWords book) t)
+    pub compiled-offset : FirstFit book t (lowestOffset book table t)
+    compiled-offset = first-fit (lowestOffset book table t) (lowest-offset-is book table t)
 
-    compiled-found : (s : Sought) → lowestOffset book (treeWords book) t ≡ s → FirstFit book t s
+    compiled-found : (s : Sought) → lowestOffset book table t ≡ s → FirstFit book t s
     compiled-found s e = rw e at compiled-offset
 
     abbrev StepO : Stepped → Type 0
@@ -129,7 +130,7 @@ module _ (book : List ℕ) (accepted : checkBook book ≡ Good) (short : length 
     StepO (Becomes u) = OneStep book t u
     StepO (Refused a) = a ≡ Over
 
-    step-o : (s : Sought) → lowestOffset book (treeWords book) t ≡ s → StepO (stepFound book t s)
+    step-o : (s : Sought) → lowestOffset book table t ≡ s → StepO (stepFound book t s)
     unfolding wholeWithin
     step-o Nowhere e = compiled-found Nowhere e
     step-o (FoundAt at f) e = go (withinLimits (spliced t at (rewritten book f))) refl
@@ -139,40 +140,40 @@ module _ (book : List ℕ) (accepted : checkBook book ≡ Good) (short : length 
         go false q = refl
     step-o (Broken address) e = absurd (compiled-found (Broken address) e)
 
-    pub compiled-step : StepO (step book (treeWords book) t)
+    pub compiled-step : StepO (step book table t)
     unfolding step
-    compiled-step = step-o (lowestOffset book (treeWords book) t) refl
+    compiled-step = step-o (lowestOffset book table t) refl
 
   -- ---- simplifying
-  reaches : (n : ℕ) (t v : Row) → IsBody t → StepsTo book (treeWords book) n t v → Reaches book n t v
+  reaches : (n : ℕ) (t v : Row) → IsBody t → StepsTo book table n t v → Reaches book n t v
   unfolding Reaches StepsTo
   reaches zero t v i s = s
   reaches (suc n) t v i s =
-      (s .0, rw (s .1) at (compiled-step t i), reaches n (s .0) v (step-term book accepted (treeWords book) t (s .0) i (s .1)) (s .2))
+      (s .0, rw (s .1) at (compiled-step t i), reaches n (s .0) v (step-term book accepted table t (s .0) i (s .1)) (s .2))
 
-  rested : (budget n : ℕ) (v : Row) (a : Answer) → IsBody v → EndsAs book (treeWords book) budget n v a → Rested book budget n v a
+  rested : (budget n : ℕ) (v : Row) (a : Answer) → IsBody v → EndsAs book table budget n v a → Rested book budget n v a
   rested budget n v a i (rests e q) = normal e (rw q at (compiled-offset v i))
   rested budget n v a i (used e m at f q) = unfinished e m at f (rw q at (compiled-offset v i))
 
-  too-large : (budget n : ℕ) (v : Row) (a : Answer) → IsBody v → StopsAs book (treeWords book) budget n v a → TooLarge book budget n v a
+  too-large : (budget n : ℕ) (v : Row) (a : Answer) → IsBody v → StopsAs book table budget n v a → TooLarge book budget n v a
   too-large budget n v a i (broken address e q) = absurd (rw q at (compiled-offset v i))
   too-large budget n v a i (over e m at f q w) = record { answer = e; left = m; at = at; fitting = f; first = rw q at (compiled-offset v i); large = w }
 
-  run-of : (budget : ℕ) (t : Row) → IsBody t → (r : Run) → RunIs book (treeWords book) budget t r → Simplified book budget t r
+  run-of : (budget : ℕ) (t : Row) → IsBody t → (r : Run) → RunIs book table budget t r → Simplified book budget t r
   run-of budget t i (Stopped n a) r =
-      (r .0, reaches n t (r .0) i (r .1), r .2, too-large budget n (r .0) a (steps-term book (treeWords book) accepted n t (r .0) i (r .1)) (r .3))
+      (r .0, reaches n t (r .0) i (r .1), r .2, too-large budget n (r .0) a (steps-term book table accepted n t (r .0) i (r .1)) (r .3))
   run-of budget t i (Ended n a v) r =
-      (reaches n t v i (r .0), r .1, rested budget n v a (steps-term book (treeWords book) accepted n t v i (r .0)) (r .2))
+      (reaches n t v i (r .0), r .1, rested budget n v a (steps-term book table accepted n t v i (r .0)) (r .2))
 
   module _ (ws : List ℕ) (term : IsTerm ws) where
     -- simplifying a term with the compiled tree: as many steps as it says, each at the lowest offset at which some rule fits, to a term in which none fits, or as far as the budget or the limits go
-    pub compiled-simplify : (budget : ℕ) → Simplified book budget (term .tree) (simplify book (treeWords book) budget ws)
+    pub compiled-simplify : (budget : ℕ) → Simplified book budget (term .tree) (simplify book table budget ws)
     unfolding simplify
     compiled-simplify budget =
         rw (accepted, tree-good termLimits ws term, tree-of termLimits ws term)
-        (run-of budget (term .tree) (term-row ws term) (simplifyBy book (treeWords book) budget (term .tree)) (run-is book (treeWords book) budget (term .tree)))
+        (run-of budget (term .tree) (term-row ws term) (simplifyBy book table budget (term .tree)) (run-is book table budget (term .tree)))
 
     -- rewriting at the root with the compiled tree: by the lowest rule that fits
-    pub compiled-root : rewriteRoot book (treeWords book) ws ≡ walkedRoot book (walkedOf (varsIn book) (lowest book 0 (getD book 0 0) (term .tree)))
+    pub compiled-root : rewriteRoot book table ws ≡ walkedRoot book (walkedOf (varsIn book) (lowest book 0 (getD book 0 0) (term .tree)))
     unfolding rewriteRoot
     compiled-root = rw (accepted, tree-good termLimits ws term, tree-of termLimits ws term) (ap (walkedRoot book) (looks (term .tree) (term-row ws term)))

@@ -32,3 +32,7 @@ pub use Rattle.steps.proofs.Settled.{write-same, same-written, same-spl
 -- Rewriting at the root and simplifying: each promise settles the answer and every lent word.
 pub use Rattle.steps.proofs.Roots.{RootPromised, root-settled}
 pub use Rattle.steps.proofs.Runs.{SimplifyPromised, simplify-settled}
+-- Rewriting at the root and simplifying, judgement by judgement; a damaged node stops a run.
+pub use Rattle.steps.proofs.Judgements.{rule-writes-right, rewrite-bad-book, rewrite-bad-term, rewrite-walked, simplify-bad-book, simplify-bad-term, simplify-runs, stopped-run, ended-run, steps-none, steps-more, none-steps, more-steps, step-made, makes-step, damage-stops}
+-- What simplifying answers and leaves in 4,096 words or more, by how it ended.
+pub use Rattle.steps.proofs.RunWords.{RunGives, simplify-gives}

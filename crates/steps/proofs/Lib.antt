@@ -26,4 +26,6 @@ mod Roots
 mod Seeks
 mod Moves
 mod Runs
+mod Judgements
+mod RunWords
 pub mod Laws

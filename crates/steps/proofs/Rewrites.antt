@@ -6,8 +6,8 @@ use mathlib.Core.Option.{none, some}
 use Prim.Native.Nat.{ℕ, zero, suc, _+_, _-_, _≤_, _<_}
 use native.Mathlib.Omega.{arith}
 use lib.Dec.{leb}
-use lib.ListN.{length, getD, take, drop, replicate, length-append}
-use lib.Seq.{take-at, take-append-seam, drop-append-add, sets-eq}
+use lib.ListN.{length, getD, take, drop, replicate, length-append, length-replicate, replicate-append-replicate}
+use lib.Seq.{length-take-le, take-at, take-append-seam, drop-append-seam, drop-append-add, sets-eq}
 use borrow.Author.Tests.{leb-true}
 use Rattle.term.specs.declared.check.Checked.the-variants.{Good}
 use Rattle.term.specs.declared.renumber.Step.{Step}
@@ -24,7 +24,7 @@ use Rattle.fit.specs.Fit.{IsBody}
 use Rattle.fit.specs.Match.{treeOf, bodyList, lengthList}
 use Rattle.fit.specs.Lowest.{Fitting}
 use Rattle.fit.specs.Build.{startOf, wordsAt, largest, withinLimits}
-use Rattle.fit.proofs.Laws.{tree-of, within-limits-is, bodies-none, bodies-more, lengths-more, start-none, start-more, words-at-are}
+use Rattle.fit.proofs.Laws.{tree-of, within-limits-is, bodies-none, bodies-more, lengths-none, lengths-more, start-none, start-more, words-at-are}
 use Rattle.walk.specs.declared.with_book.BookMatch.the-variants as found
 use Rattle.walk.specs.Walk.{Walked, RuleFits, bookFits}
 use Rattle.walk.specs.State.{partFrom, Parted}
@@ -35,7 +35,7 @@ use Rattle.steps.specs.Rewrite.{rewritten}
 use Rattle.steps.specs.RightWalk.{BodiesStand, WrittenWithin, RightWritten}
 use Rattle.steps.specs.declared.rules.Rewrote.{Rewrote}
 use Rattle.steps.specs.declared.rules.Rewrote.the-variants as rewrote
-use Rattle.steps.specs.Operations.{RuleWritten, RowWritten, RewriteTold}
+use Rattle.steps.specs.Operations.{Cleared, RuleWritten, RowWritten, RewriteTold}
 use Rattle.steps.proofs.RightRows.{parametersOf, accepted-right}
 
 -- ---- bodies one after the other, with zeros after them
@@ -88,6 +88,60 @@ module _ (b : ℕ → Row) (n : ℕ) (zs os : List ℕ) where
       let w : take (length (words (b x))) (drop (length (bodyList b 0 x)) (bodyList b 0 n ++ zs)) ≡ words (b x) = rw z at (words-there b zs 0 n x l) in
       sym (words-at-are (bodyList b 0 n ++ zs) (lengthList b 0 n ++ os) x ∙ rw (g, starts x (omega arith)) w)
 
+-- ---- the words that the bodies used are all that is to be cleared
+pub prefix-cleared : (bodies part : List ℕ) (sum used : ℕ) → used ≡ sum → sum ≤ length bodies → part ≡ replicate (length (take used bodies)) 0 → part ++ drop used bodies ≡ replicate sum 0 ++ drop sum bodies
+prefix-cleared bodies part sum used e l p = rw (p, e, length-take-le sum bodies l)
+
+zero-at : (k i : ℕ) → _≡_ {A = ℕ} (getD {A = ℕ} (replicate k 0) i 0) 0
+zero-at zero i = refl
+zero-at (suc k) zero = refl
+zero-at (suc k) (suc i) = zero-at k i
+
+length-past : (b : ℕ → Row) (os : List ℕ) (y n x : ℕ) → getD (lengthList b y n ++ os) (n + x) 0 ≡ getD os x 0
+length-past b os y zero x = let z : 0 + x ≡ x = omega arith in rw (z, lengths-none b y)
+length-past b os y (suc n) x = let z : suc n + x ≡ suc (n + x) = omega arith in rw (z, lengths-more b y n) (length-past b os (suc y) n x)
+
+many-lengths : (b : ℕ → Row) (y n : ℕ) → length (lengthList b y n) ≡ n
+many-lengths b y zero = ap length (lengths-none b y)
+many-lengths b y (suc n) = ap length (lengths-more b y n) ∙ ap suc (many-lengths b (suc y) n)
+
+module _ (b : ℕ → Row) (n : ℕ) where
+  start-past : (more k : ℕ) → startOf (lengthList b 0 n ++ replicate more 0) (n + k) ≡ length (bodyList b 0 n)
+  start-past more zero = let z : n + 0 ≡ n = omega arith in rw z (starts b n (replicate more 0) (replicate more 0) n (omega arith))
+  start-past more (suc k) =
+      let z : n + suc k ≡ suc (n + k) = omega arith in
+      let ls = lengthList b 0 n ++ replicate more 0 in
+      rw z (omega (arith, start-more ls (n + k), length-past b (replicate more 0) 0 n k, zero-at more k, start-past more k))
+
+  abbrev used : ℕ
+  used = length (bodyList b 0 n)
+
+  module _ (bodies lengths : List ℕ) (e : bodies ≡ bodyList b 0 n ++ replicate (65536 - length (bodyList b 0 n)) 0) (l : lengths ≡ lengthList b 0 n ++ replicate (16 - n) 0)
+      (long : length bodies ≡ 65536) (sixteen : length lengths ≡ 16) where
+    few-bodies : n ≤ 16
+    few-bodies = omega (arith, sixteen, ap length l, length-append (lengthList b 0 n) (replicate (16 - n) 0), many-lengths b 0 n, length-replicate {A = ℕ} (16 - n) 0)
+
+    used-is : startOf lengths 16 ≡ used
+    used-is = let z : n + (16 - n) ≡ 16 = omega (arith, few-bodies) in ap (λ (ls : List ℕ). startOf ls 16) l ∙ rw z at (start-past (16 - n) (16 - n))
+
+    used-few : used ≤ 65536
+    used-few = omega (arith, long, ap length e, length-append (bodyList b 0 n) (replicate (65536 - used) 0))
+
+    rest-zeros : replicate used 0 ++ drop used bodies ≡ replicate 65536 0
+    rest-zeros =
+        let z : used + (65536 - used) ≡ 65536 = omega (arith, used-few) in
+        ap (λ (ws : List ℕ). replicate used 0 ++ drop used ws) e
+        ∙ ap (λ (ws : List ℕ). replicate used 0 ++ ws) (drop-append-seam (bodyList b 0 n) (replicate (65536 - used) 0))
+        ∙ replicate-append-replicate used (65536 - used) 0
+        ∙ ap (λ (k : ℕ). replicate k 0) z
+
+    used-zeros : (startOf lengths 16 ≤ length bodies) × (replicate (startOf lengths 16) 0 ++ drop (startOf lengths 16) bodies ≡ replicate 65536 0)
+    used-zeros = rw used-is (omega (arith, used-few, long), rest-zeros)
+
+pub used-cleared : (w : Walked) (number : ℕ) (bodies lengths : List ℕ) → BookWalked w (found.Rule number) bodies lengths → length bodies ≡ 65536 → length lengths ≡ 16
+    → (startOf lengths 16 ≤ length bodies) × (replicate (startOf lengths 16) 0 ++ drop (startOf lengths 16) bodies ≡ replicate 65536 0)
+used-cleared w number bodies lengths k long sixteen = let q = walked-rule w number bodies lengths k in used-zeros (q .0 .bodies) (q .1) bodies lengths (q .4) (q .5) long sixteen
+
 -- ---- within the limits there is room
 pub within-short : (t : Row) → withinLimits t ≡ true → length (words t) ≤ 4096
 within-short t e = leb-true (length (words t)) 4096 (and-left (leb (length (words t)) 4096) (leb (nesting t) 64 && leb (largest t) 65535) (sym (within-limits-is t) ∙ e))
@@ -118,13 +172,13 @@ rewroteBy (step.Done n) = rewrote.Wrote n
 rewroteBy step.Stuck = rewrote.Over
 
 module _ (book : List ℕ) where
-  pub at-none : (w : Walked) (bodies lengths out : List ℕ) → BookWalked w found.None bodies lengths → RewriteTold book w bodies lengths out rewrote.None
+  pub at-none : (w : Walked) (bodies lengths out : List ℕ) → BookWalked w found.None bodies lengths → RewriteTold book w out rewrote.None × Cleared bodies lengths
   unfolding RewriteTold
-  at-none w bodies lengths out b = let q = walked-none w bodies lengths b in rw (q .0) (refl, q .1, q .2)
+  at-none w bodies lengths out b = let q = walked-none w bodies lengths b in (rw (q .0) refl, (q .1, q .2))
 
-  pub at-damaged : (w : Walked) (address : ℕ) (bodies lengths out : List ℕ) → BookWalked w (found.Damaged address) bodies lengths → RewriteTold book w bodies lengths out (rewrote.Damaged address)
+  pub at-damaged : (w : Walked) (address : ℕ) (bodies lengths out : List ℕ) → BookWalked w (found.Damaged address) bodies lengths → RewriteTold book w out (rewrote.Damaged address) × Cleared bodies lengths
   unfolding RewriteTold
-  at-damaged w address bodies lengths out b = rw (walked-damaged w address bodies lengths b) refl
+  at-damaged w address bodies lengths out b = let q = walked-damaged w address bodies lengths b in (rw (q .0) refl, (q .1, q .2))
 
   module _ (accepted : checkBook book ≡ Good) (table ws : List ℕ) (parted : Parted ws) (some-words : 0 < length ws) where
     wrote-within : (out done : List ℕ) → length out ≡ 4096 → (t : Row) (r : Step) → WrittenWithin out done t r → RowWritten t done (rewroteBy r)
@@ -160,7 +214,7 @@ module _ (book : List ℕ) where
         rule-told f n (q .0) (q .1) (sym (fs .1) ∙ q .2) (fs .3) bodies lengths b l out done long r w
 
     pub at-rule : (number : ℕ) (bodies lengths : List ℕ) → BookWalked (bookWalk book table ws) (found.Rule number) bodies lengths → (out done : List ℕ) → length out ≡ 4096
-        → (r : Step) → RuleWritten book number bodies lengths out done r → RewriteTold book (bookWalk book table ws) bodies lengths done (rewroteBy r)
+        → (r : Step) → RuleWritten book number bodies lengths out done r → RewriteTold book (bookWalk book table ws) done (rewroteBy r)
     unfolding RewriteTold
     at-rule number bodies lengths k out done long r w =
         let q = walked-rule (bookWalk book table ws) number bodies lengths k in
@@ -168,5 +222,5 @@ module _ (book : List ℕ) where
       where
         go : (v : Walked) → FoundSound (bookFits book) v → (f : Fitting) (n : ℕ) → v ≡ RuleFits f n → number ≡ f .number
             → bodies ≡ bodyList (f .bodies) 0 n ++ replicate (65536 - length (bodyList (f .bodies) 0 n)) 0 → lengths ≡ lengthList (f .bodies) 0 n ++ replicate (16 - n) 0
-            → RewriteTold book v bodies lengths done (rewroteBy r)
+            → RewriteTold book v done (rewroteBy r)
         go v s f n e y b l = rw e (found-told f n (rw e at s) bodies lengths b l out done long r (rw y at w))

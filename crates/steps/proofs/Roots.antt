@@ -46,37 +46,37 @@ built-told : (room : ℕ) (u : Row) (r : Answer) (out : List ℕ) → (r ≡ giv
 built-told room u r out g = let q = built-built room u in (g .0 ∙ sym (q .0), g .1 ∙ sym (q .1))
 
 -- ---- how the walk and the rule ended
-module _ (book : List ℕ) (room : ℕ) (bodies lengths area out : List ℕ) where
+module _ (book : List ℕ) (room : ℕ) (area out : List ℕ) where
   module _ (c : out ≡ replicate room 0) where
-    pub root-none : (w : Walked) → RewriteTold book w bodies lengths area rewrote.None → BuiltTold room (walkedRoot book w) answer.NoFit out
+    pub root-none : (w : Walked) → RewriteTold book w area rewrote.None → BuiltTold room (walkedRoot book w) answer.NoFit out
     unfolding RewriteTold
     root-none NoneFits t = refused-told room answer.NoFit out c
     root-none (RuleFits f n) t = absurd t
     root-none (DamagedAt at) t = let z : rewrote.None ≡ rewrote.Damaged at = t in never (cc)
 
-    pub root-damaged : (w : Walked) (address : ℕ) → RewriteTold book w bodies lengths area (rewrote.Damaged address) → BuiltTold room (walkedRoot book w) (answer.Damaged address) out
+    pub root-damaged : (w : Walked) (address : ℕ) → RewriteTold book w area (rewrote.Damaged address) → BuiltTold room (walkedRoot book w) (answer.Damaged address) out
     unfolding RewriteTold
-    root-damaged NoneFits address t = let z : rewrote.Damaged address ≡ rewrote.None = t .0 in never (cc)
+    root-damaged NoneFits address t = let z : rewrote.Damaged address ≡ rewrote.None = t in never (cc)
     root-damaged (RuleFits f n) address t = absurd t
     root-damaged (DamagedAt at) address t = let z : rewrote.Damaged address ≡ rewrote.Damaged at = t in let y : address ≡ at = cc in
         let q = refused-told room (answer.Damaged at) out c in (ap answer.Damaged y ∙ q .0, q .1)
 
-    pub root-over : (w : Walked) → RewriteTold book w bodies lengths area rewrote.Over → BuiltTold room (walkedRoot book w) answer.Over out
+    pub root-over : (w : Walked) → RewriteTold book w area rewrote.Over → BuiltTold room (walkedRoot book w) answer.Over out
     unfolding RewriteTold
-    root-over NoneFits t = let z : rewrote.Over ≡ rewrote.None = t .0 in never (cc)
+    root-over NoneFits t = let z : rewrote.Over ≡ rewrote.None = t in never (cc)
     root-over (RuleFits f n) t = rw (limited-is (rewritten book f), t) (refused-told room answer.Over out c)
     root-over (DamagedAt at) t = let z : rewrote.Over ≡ rewrote.Damaged at = t in never (cc)
 
-  pub root-few : (w : Walked) (n : ℕ) → RewriteTold book w bodies lengths area (rewrote.Wrote n) → n ≤ 4096
+  pub root-few : (w : Walked) (n : ℕ) → RewriteTold book w area (rewrote.Wrote n) → n ≤ 4096
   unfolding RewriteTold
-  root-few NoneFits n t = let z : rewrote.Wrote n ≡ rewrote.None = t .0 in never (cc)
+  root-few NoneFits n t = let z : rewrote.Wrote n ≡ rewrote.None = t in never (cc)
   root-few (RuleFits f m) n t = t .2
   root-few (DamagedAt at) n t = let z : rewrote.Wrote n ≡ rewrote.Damaged at = t in never (cc)
 
-  pub root-wrote : (w : Walked) (n : ℕ) → RewriteTold book w bodies lengths area (rewrote.Wrote n)
+  pub root-wrote : (w : Walked) (n : ℕ) → RewriteTold book w area (rewrote.Wrote n)
       → (r : Answer) → (r ≡ givenAnswer room (take n area) answer.Done) × (out ≡ padded room (take n area)) → BuiltTold room (walkedRoot book w) r out
   unfolding RewriteTold
-  root-wrote NoneFits n t r g = let z : rewrote.Wrote n ≡ rewrote.None = t .0 in never (cc)
+  root-wrote NoneFits n t r g = let z : rewrote.Wrote n ≡ rewrote.None = t in never (cc)
   root-wrote (RuleFits f m) n t r g = rw (limited-is (rewritten book f), t .0) (built-told room (rewritten book f) r out (rw (t .3) at g))
   root-wrote (DamagedAt at) n t r g = let z : rewrote.Wrote n ≡ rewrote.Damaged at = t in never (cc)
 

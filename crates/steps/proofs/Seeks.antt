@@ -3,7 +3,7 @@ use mathlib.Core.Path.{_≡_, refl, sym, ap, _∙_}
 use mathlib.Core.List.{List}
 use Prim.Native.Nat.{ℕ, zero, suc, _+_, _-_, _≤_, _<_}
 use native.Mathlib.Omega.{arith}
-use lib.ListN.{length, drop, replicate, length-drop}
+use lib.ListN.{length, drop, length-drop}
 use Rattle.term.specs.Row.{Row, words}
 use Rattle.term.specs.Check.{IsTerm, termLimits}
 use Rattle.term.proofs.Laws.{never}
@@ -39,28 +39,28 @@ module _ (ws : List ℕ) (i : IsTerm ws) where
       from-stands (drop at ws) 0 (partAt t at) _ s
 
 -- ---- what one offset tells
-module _ (book : List ℕ) (at : ℕ) (later : Sought) (bodies lengths new : List ℕ) where
-  pub told-none : (w : Walked) → RewriteTold book w bodies lengths new rewrote.None → (orLater at w later ≡ later) × (bodies ≡ replicate 65536 0) × (lengths ≡ replicate 16 0)
+module _ (book : List ℕ) (at : ℕ) (later : Sought) (new : List ℕ) where
+  pub told-none : (w : Walked) → RewriteTold book w new rewrote.None → orLater at w later ≡ later
   unfolding RewriteTold
-  told-none NoneFits t = (refl, t .1, t .2)
+  told-none NoneFits t = refl
   told-none (RuleFits f n) t = absurd t
   told-none (DamagedAt a) t = let z : rewrote.None ≡ rewrote.Damaged a = t in never (cc)
 
-  pub told-wrote : (w : Walked) (n : ℕ) → RewriteTold book w bodies lengths new (rewrote.Wrote n) → LowestTold book (orLater at w later) new (lowest.At at n)
+  pub told-wrote : (w : Walked) (n : ℕ) → RewriteTold book w new (rewrote.Wrote n) → LowestTold book (orLater at w later) new (lowest.At at n)
   unfolding RewriteTold LowestTold
-  told-wrote NoneFits n t = let z : rewrote.Wrote n ≡ rewrote.None = t .0 in never (cc)
+  told-wrote NoneFits n t = let z : rewrote.Wrote n ≡ rewrote.None = t in never (cc)
   told-wrote (RuleFits f m) n t = (refl, t .0, t .1, t .2, t .3)
   told-wrote (DamagedAt a) n t = let z : rewrote.Wrote n ≡ rewrote.Damaged a = t in never (cc)
 
-  pub told-over : (w : Walked) → RewriteTold book w bodies lengths new rewrote.Over → LowestTold book (orLater at w later) new lowest.Over
+  pub told-over : (w : Walked) → RewriteTold book w new rewrote.Over → LowestTold book (orLater at w later) new lowest.Over
   unfolding RewriteTold LowestTold
-  told-over NoneFits t = let z : rewrote.Over ≡ rewrote.None = t .0 in never (cc)
+  told-over NoneFits t = let z : rewrote.Over ≡ rewrote.None = t in never (cc)
   told-over (RuleFits f m) t = t
   told-over (DamagedAt a) t = let z : rewrote.Over ≡ rewrote.Damaged a = t in never (cc)
 
-  pub told-damaged : (w : Walked) (address : ℕ) → RewriteTold book w bodies lengths new (rewrote.Damaged address) → LowestTold book (orLater at w later) new (lowest.Broken address)
+  pub told-damaged : (w : Walked) (address : ℕ) → RewriteTold book w new (rewrote.Damaged address) → LowestTold book (orLater at w later) new (lowest.Broken address)
   unfolding RewriteTold LowestTold
-  told-damaged NoneFits address t = let z : rewrote.Damaged address ≡ rewrote.None = t .0 in never (cc)
+  told-damaged NoneFits address t = let z : rewrote.Damaged address ≡ rewrote.None = t in never (cc)
   told-damaged (RuleFits f m) address t = absurd t
   told-damaged (DamagedAt a) address t = let z : rewrote.Damaged address ≡ rewrote.Damaged a = t in let y : address ≡ a = cc in ap lowest.Broken y
 
@@ -96,24 +96,24 @@ module _ (book table ws : List ℕ) (i : IsTerm ws) where
         let z : length ws - at - 1 ≡ length ws - (at + 1) = omega arith in
         one-more (length ws - at) refl ∙ rw (part-there ws i at l, y, z)
 
-  module _ (at : ℕ) (l : at < length ws) (s : Seeking book table ws at) (bodies lengths new : List ℕ) where
+  module _ (at : ℕ) (l : at < length ws) (s : Seeking book table ws at) (new : List ℕ) where
     abbrev here : Walked
     here = bookWalk book table (drop at ws)
 
     abbrev later : Sought
     later = leftToSeek book table ws (at + 1)
 
-    pub seek-more : RewriteTold book (bookWalk book table (drop at ws)) bodies lengths new rewrote.None → Seeking book table ws (at + 1) × (bodies ≡ replicate 65536 0) × (lengths ≡ replicate 16 0)
-    seek-more t = let q = told-none book at later bodies lengths new here t in (s ∙ seek-here at l ∙ q .0, q .1, q .2)
+    pub seek-more : RewriteTold book (bookWalk book table (drop at ws)) new rewrote.None → Seeking book table ws (at + 1)
+    seek-more t = s ∙ seek-here at l ∙ told-none book at later new here t
 
-    pub seek-found : (n : ℕ) → RewriteTold book (bookWalk book table (drop at ws)) bodies lengths new (rewrote.Wrote n) → LowestTold book (lowestOffset book table (treeOf ws)) new (lowest.At at n)
-    seek-found n t = rw (s ∙ seek-here at l) (told-wrote book at later bodies lengths new here n t)
+    pub seek-found : (n : ℕ) → RewriteTold book (bookWalk book table (drop at ws)) new (rewrote.Wrote n) → LowestTold book (lowestOffset book table (treeOf ws)) new (lowest.At at n)
+    seek-found n t = rw (s ∙ seek-here at l) (told-wrote book at later new here n t)
 
-    pub seek-over : RewriteTold book (bookWalk book table (drop at ws)) bodies lengths new rewrote.Over → LowestTold book (lowestOffset book table (treeOf ws)) new lowest.Over
-    seek-over t = rw (s ∙ seek-here at l) (told-over book at later bodies lengths new here t)
+    pub seek-over : RewriteTold book (bookWalk book table (drop at ws)) new rewrote.Over → LowestTold book (lowestOffset book table (treeOf ws)) new lowest.Over
+    seek-over t = rw (s ∙ seek-here at l) (told-over book at later new here t)
 
-    pub seek-broken : (address : ℕ) → RewriteTold book (bookWalk book table (drop at ws)) bodies lengths new (rewrote.Damaged address) → LowestTold book (lowestOffset book table (treeOf ws)) new (lowest.Broken address)
-    seek-broken address t = rw (s ∙ seek-here at l) (told-damaged book at later bodies lengths new here address t)
+    pub seek-broken : (address : ℕ) → RewriteTold book (bookWalk book table (drop at ws)) new (rewrote.Damaged address) → LowestTold book (lowestOffset book table (treeOf ws)) new (lowest.Broken address)
+    seek-broken address t = rw (s ∙ seek-here at l) (told-damaged book at later new here address t)
 
 pub some-left : (ws : List ℕ) (at : ℕ) → at < length ws → 0 < length (drop at ws)
 some-left ws at l = rw (length-drop at ws) (omega arith)

@@ -31,6 +31,10 @@ use Rattle.steps.specs.declared.simplify.Simplified.{Simplified}
 abbrev pub Accepted : List ℕ → Type 0
 Accepted book = checkBook book ≡ Good
 
+-- room for the bodies of a rule and their lengths, with nothing in it
+abbrev pub Cleared : List ℕ → List ℕ → Type 0
+Cleared bodies lengths = (bodies ≡ replicate 65536 0) × (lengths ≡ replicate 16 0)
+
 -- the right side of the rule of this number, where the book has it
 unfoldable pub RuleWritten : List ℕ → ℕ → List ℕ → List ℕ → List ℕ → List ℕ → Step → Type 0
 RuleWritten book number bodies lengths out done r = (rule : Rule) → ruleAt book number ≡ some rule → RightWritten (rule .right) bodies lengths out done r
@@ -43,10 +47,10 @@ RowWritten u out (rewrote.Damaged at) = ⊥
 RowWritten u out rewrote.Over = withinLimits u ≡ false
 
 -- a part rewritten, by how its walk ended
-unfoldable pub RewriteTold : List ℕ → Walked → List ℕ → List ℕ → List ℕ → Rewrote → Type 0
-RewriteTold book NoneFits bodies lengths out r = (r ≡ rewrote.None) × (bodies ≡ replicate 65536 0) × (lengths ≡ replicate 16 0)
-RewriteTold book (RuleFits f n) bodies lengths out r = RowWritten (rewritten book f) out r
-RewriteTold book (DamagedAt at) bodies lengths out r = r ≡ rewrote.Damaged at
+unfoldable pub RewriteTold : List ℕ → Walked → List ℕ → Rewrote → Type 0
+RewriteTold book NoneFits out r = r ≡ rewrote.None
+RewriteTold book (RuleFits f n) out r = RowWritten (rewritten book f) out r
+RewriteTold book (DamagedAt at) out r = r ≡ rewrote.Damaged at
 
 -- ---- an answer with words into a lent slice
 abbrev pub givenAnswer : ℕ → List ℕ → Answer → Answer

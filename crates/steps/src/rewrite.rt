@@ -4,7 +4,7 @@ ghost use lib.ListN.{length, replicate};
 ghost use Rattle.term.specs.Check.{IsTerm};
 ghost use Rattle.walk.specs.WithBook.{bookWalk};
 ghost use Rattle.steps.specs.Rewrite.{walkedRoot, rootAnswer, rootWords};
-ghost use Rattle.steps.specs.Operations.{Accepted, BuiltTold};
+ghost use Rattle.steps.specs.Operations.{Accepted, Cleared, BuiltTold};
 use crate::area::give;
 use crate::rules::BODIES;
 use crate::rules::LENGTHS;
@@ -27,7 +27,7 @@ fn root_with(
     area: &mut [u32],
     out: &mut [u32],
 ) -> Answer
-    requires { ⌜ Accepted (now book) × IsTerm (now term) × (now bodies ≡ replicate 65536 0) × (now lengths ≡ replicate 16 0) × (length (now area) ≡ 4096)
+    requires { ⌜ Accepted (now book) × IsTerm (now term) × Cleared (now bodies) (now lengths) × (length (now area) ≡ 4096)
         × (now out ≡ replicate (length (now out)) 0) ⌝ }
     ensures { λ r. ⌜ BuiltTold (length (now (out .entry))) (walkedRoot (now (book .entry)) (bookWalk (now (book .entry)) (now (tree .entry)) (now (term .entry)))) r (now (out .exit)) ⌝ }
 {

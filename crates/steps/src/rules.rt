@@ -1,13 +1,17 @@
 // A rule at a part: the walk with the book finds it, and its right side is written from its bodies.
 ghost use mathlib.Core.Path.{_≡_};
-ghost use Prim.Native.Nat.{_<_};
-ghost use lib.ListN.{length, replicate};
+ghost use mathlib.Core.List.{_++_};
+ghost use Prim.Native.Nat.{_≤_, _<_};
+ghost use lib.ListN.{length, drop, replicate};
+ghost use Rattle.fit.specs.Build.{startOf};
 ghost use Rattle.walk.specs.State.{Parted};
 ghost use Rattle.walk.specs.WithBook.{bookWalk};
-ghost use Rattle.steps.specs.Operations.{Accepted, RuleWritten, RewriteTold};
+ghost use Rattle.steps.specs.Operations.{Accepted, Cleared, RuleWritten, RewriteTold};
 use crate::right::write_right;
 use book::book::Found;
 use book::book::find_rule;
+use fit::build::start_of;
+use term::lent::clear;
 use term::renumber::Step;
 use walk::with_book::BookMatch;
 use walk::with_book::walk_book;
@@ -38,7 +42,19 @@ fn write_rule(book: &[u32], number: u32, bodies: &[u32], lengths: &[u32], out: &
     write_right(&book[right..end], bodies, lengths, out)
 }
 
-// Rewrites the part that the words begin with, with cleared bodies and lengths.
+// Clears the bodies that the lengths tell of, and the lengths. Bodies are mostly far shorter than their room: what none of them used is
+// left as it is.
+fn clear_used(bodies: &mut [u32], lengths: &mut [u32])
+    requires { ⌜ (length (now lengths) ≡ 16) × (startOf (now lengths) 16 ≤ length (now bodies)) ⌝ }
+    ensures { λ _. ⌜ (now (bodies .exit) ≡ replicate (startOf (now (lengths .entry)) 16) 0 ++ drop (startOf (now (lengths .entry)) 16) (now (bodies .entry)))
+        × (now (lengths .exit) ≡ replicate 16 0) ⌝ }
+{
+    let used = start_of(lengths, LENGTHS);
+    clear(&mut bodies[..used]);
+    clear(lengths);
+}
+
+// Rewrites the part that the words begin with. The bodies and lengths are cleared before and after.
 pub fn rewrite_at(
     book: &[u32],
     tree: &[u32],
@@ -47,16 +63,20 @@ pub fn rewrite_at(
     lengths: &mut [u32],
     out: &mut [u32],
 ) -> Rewrote
-    requires { ⌜ Accepted (now book) × Parted (now part) × (0 < length (now part)) × (now bodies ≡ replicate 65536 0) × (now lengths ≡ replicate 16 0)
-        × (length (now out) ≡ 4096) ⌝ }
-    ensures { λ r. ⌜ RewriteTold (now (book .entry)) (bookWalk (now (book .entry)) (now (tree .entry)) (now (part .entry))) (now (bodies .exit)) (now (lengths .exit)) (now (out .exit)) r ⌝ }
+    requires { ⌜ Accepted (now book) × Parted (now part) × (0 < length (now part)) × Cleared (now bodies) (now lengths) × (length (now out) ≡ 4096) ⌝ }
+    ensures { λ r. ⌜ RewriteTold (now (book .entry)) (bookWalk (now (book .entry)) (now (tree .entry)) (now (part .entry))) (now (out .exit)) r
+        × Cleared (now (bodies .exit)) (now (lengths .exit)) ⌝ }
 {
     match walk_book(book, tree, part, bodies, lengths) {
         BookMatch::None => Rewrote::None,
         BookMatch::Damaged(at) => Rewrote::Damaged(at),
-        BookMatch::Rule(number) => match write_rule(book, number, bodies, lengths, out) {
-            Step::Done(n) => Rewrote::Wrote(n),
-            Step::Stuck => Rewrote::Over,
-        },
+        BookMatch::Rule(number) => {
+            let wrote = write_rule(book, number, bodies, lengths, out);
+            clear_used(bodies, lengths);
+            match wrote {
+                Step::Done(n) => Rewrote::Wrote(n),
+                Step::Stuck => Rewrote::Over,
+            }
+        }
     }
 }

@@ -7,7 +7,7 @@ ghost use Rattle.fit.specs.Match.{treeOf};
 ghost use Rattle.steps.specs.Area.{splicedWords};
 ghost use Rattle.steps.specs.Step.{lowestOffset, step};
 ghost use Rattle.steps.specs.Simplify.{simplifyBy, simplify, simplifyAnswer, simplifyWords, simplifySteps};
-ghost use Rattle.steps.specs.Operations.{Accepted, LowestTold, ReplaceTold, MoveTold, RunTold, lookedAfter};
+ghost use Rattle.steps.specs.Operations.{Accepted, Cleared, LowestTold, ReplaceTold, MoveTold, RunTold, lookedAfter};
 use crate::area::copy;
 use crate::area::give;
 use crate::area::splice;
@@ -45,8 +45,8 @@ pub struct Simplified {
     pub steps: u16,
 }
 
-// Seeks the lowest offset at which the walk finds a rule, with cleared bodies and lengths, and writes the new part.
-fn seek_with(
+// Seeks the lowest offset at which the walk finds a rule, and writes the new part. The bodies and lengths are cleared before and after.
+fn seek(
     book: &[u32],
     tree: &[u32],
     term: &[u32],
@@ -54,8 +54,9 @@ fn seek_with(
     lengths: &mut [u32],
     new: &mut [u32],
 ) -> Lowest
-    requires { ⌜ Accepted (now book) × IsTerm (now term) × (now bodies ≡ replicate 65536 0) × (now lengths ≡ replicate 16 0) × (length (now new) ≡ 4096) ⌝ }
-    ensures { λ r. ⌜ LowestTold (now (book .entry)) (lowestOffset (now (book .entry)) (now (tree .entry)) (treeOf (now (term .entry)))) (now (new .exit)) r ⌝ }
+    requires { ⌜ Accepted (now book) × IsTerm (now term) × Cleared (now bodies) (now lengths) × (length (now new) ≡ 4096) ⌝ }
+    ensures { λ r. ⌜ LowestTold (now (book .entry)) (lowestOffset (now (book .entry)) (now (tree .entry)) (treeOf (now (term .entry)))) (now (new .exit)) r
+        × Cleared (now (bodies .exit)) (now (lengths .exit)) ⌝ }
 {
     let mut at: usize = 0;
     while at < term.len() {
@@ -77,16 +78,6 @@ fn seek_with(
     Lowest::Nowhere
 }
 
-// The lowest offset of a term at which the walk finds a rule.
-fn seek(book: &[u32], tree: &[u32], term: &[u32], new: &mut [u32]) -> Lowest
-    requires { ⌜ Accepted (now book) × IsTerm (now term) × (length (now new) ≡ 4096) ⌝ }
-    ensures { λ r. ⌜ LowestTold (now (book .entry)) (lowestOffset (now (book .entry)) (now (tree .entry)) (treeOf (now (term .entry)))) (now (new .exit)) r ⌝ }
-{
-    let mut bodies = [0u32; BODIES];
-    let mut lengths = [0u32; LENGTHS];
-    seek_with(book, tree, term, &mut bodies, &mut lengths, new)
-}
-
 // Replaces a part of the area's term and checks the whole.
 fn replace(area: &mut [u32], size: usize, at: usize, new: &mut [u32], n: usize) -> Moved
     requires { ⌜ (length (now area) ≡ 4096) × (length (now new) ≡ 4096) × (size ≤ 4096) × (at < size) × (n ≤ 4096) ⌝ }
@@ -102,11 +93,21 @@ fn replace(area: &mut [u32], size: usize, at: usize, new: &mut [u32], n: usize) 
 }
 
 // One step in the work area, whose term has `size` words.
-fn step_with(book: &[u32], tree: &[u32], area: &mut [u32], size: usize, new: &mut [u32]) -> Moved
-    requires { ⌜ Accepted (now book) × (length (now area) ≡ 4096) × (size ≤ 4096) × IsTerm (take size (now area)) × (length (now new) ≡ 4096) ⌝ }
-    ensures { λ r. ⌜ MoveTold (step (now (book .entry)) (now (tree .entry)) (treeOf (take size (now (area .entry))))) (now (area .entry)) (now (area .exit)) r ⌝ }
+fn step_with(
+    book: &[u32],
+    tree: &[u32],
+    area: &mut [u32],
+    size: usize,
+    bodies: &mut [u32],
+    lengths: &mut [u32],
+    new: &mut [u32],
+) -> Moved
+    requires { ⌜ Accepted (now book) × (length (now area) ≡ 4096) × (size ≤ 4096) × IsTerm (take size (now area)) × Cleared (now bodies) (now lengths)
+        × (length (now new) ≡ 4096) ⌝ }
+    ensures { λ r. ⌜ MoveTold (step (now (book .entry)) (now (tree .entry)) (treeOf (take size (now (area .entry))))) (now (area .entry)) (now (area .exit)) r
+        × Cleared (now (bodies .exit)) (now (lengths .exit)) ⌝ }
 {
-    match seek(book, tree, &area[..size], new) {
+    match seek(book, tree, &area[..size], bodies, lengths, new) {
         Lowest::Nowhere => Moved::Rests,
         Lowest::At(at, n) => replace(area, size, at, new, n),
         Lowest::Over => Moved::Refused(Answer::Over),
@@ -114,21 +115,37 @@ fn step_with(book: &[u32], tree: &[u32], area: &mut [u32], size: usize, new: &mu
     }
 }
 
-fn one_step(book: &[u32], tree: &[u32], area: &mut [u32], size: usize) -> Moved
-    requires { ⌜ Accepted (now book) × (length (now area) ≡ 4096) × (size ≤ 4096) × IsTerm (take size (now area)) ⌝ }
-    ensures { λ r. ⌜ MoveTold (step (now (book .entry)) (now (tree .entry)) (treeOf (take size (now (area .entry))))) (now (area .entry)) (now (area .exit)) r ⌝ }
+fn one_step(
+    book: &[u32],
+    tree: &[u32],
+    area: &mut [u32],
+    size: usize,
+    bodies: &mut [u32],
+    lengths: &mut [u32],
+) -> Moved
+    requires { ⌜ Accepted (now book) × (length (now area) ≡ 4096) × (size ≤ 4096) × IsTerm (take size (now area)) × Cleared (now bodies) (now lengths) ⌝ }
+    ensures { λ r. ⌜ MoveTold (step (now (book .entry)) (now (tree .entry)) (treeOf (take size (now (area .entry))))) (now (area .entry)) (now (area .exit)) r
+        × Cleared (now (bodies .exit)) (now (lengths .exit)) ⌝ }
 {
     let mut new = [0u32; MOST_WORDS];
-    step_with(book, tree, area, size, &mut new)
+    step_with(book, tree, area, size, bodies, lengths, &mut new)
 }
 
 // The budget is used: a rule still fits the term, or none.
-fn last_look(book: &[u32], tree: &[u32], term: &[u32], steps: u16, out: &mut [u32]) -> Simplified
-    requires { ⌜ Accepted (now book) × IsTerm (now term) × (now out ≡ replicate (length (now out)) 0) ⌝ }
+fn last_look(
+    book: &[u32],
+    tree: &[u32],
+    term: &[u32],
+    steps: u16,
+    bodies: &mut [u32],
+    lengths: &mut [u32],
+    out: &mut [u32],
+) -> Simplified
+    requires { ⌜ Accepted (now book) × IsTerm (now term) × Cleared (now bodies) (now lengths) × (now out ≡ replicate (length (now out)) 0) ⌝ }
     ensures { λ r. ⌜ RunTold (length (now (out .entry))) (lookedAfter (now (book .entry)) (now (tree .entry)) steps (treeOf (now (term .entry)))) r (now (out .exit)) ⌝ }
 {
     let mut new = [0u32; MOST_WORDS];
-    match seek(book, tree, term, &mut new) {
+    match seek(book, tree, term, bodies, lengths, &mut new) {
         Lowest::Nowhere => Simplified {
             answer: give(Answer::Done, term, out),
             steps: steps,
@@ -155,15 +172,18 @@ fn run(
     budget: u16,
     area: &mut [u32],
     start: usize,
+    bodies: &mut [u32],
+    lengths: &mut [u32],
     out: &mut [u32],
 ) -> Simplified
-    requires { ⌜ Accepted (now book) × (length (now area) ≡ 4096) × (start ≤ 4096) × IsTerm (take start (now area)) × (now out ≡ replicate (length (now out)) 0) ⌝ }
+    requires { ⌜ Accepted (now book) × (length (now area) ≡ 4096) × (start ≤ 4096) × IsTerm (take start (now area)) × Cleared (now bodies) (now lengths)
+        × (now out ≡ replicate (length (now out)) 0) ⌝ }
     ensures { λ r. ⌜ RunTold (length (now (out .entry))) (simplifyBy (now (book .entry)) (now (tree .entry)) budget (treeOf (take start (now (area .entry))))) r (now (out .exit)) ⌝ }
 {
     let mut size = start;
     let mut left = budget;
     while left != 0 {
-        match one_step(book, tree, area, size) {
+        match one_step(book, tree, area, size, bodies, lengths) {
             Moved::Rests => {
                 return Simplified {
                     answer: give(Answer::Done, &area[..size], out),
@@ -182,7 +202,7 @@ fn run(
             }
         }
     }
-    last_look(book, tree, &area[..size], budget, out)
+    last_look(book, tree, &area[..size], budget, bodies, lengths, out)
 }
 
 // Simplifies a term of an accepted book in a work area.
@@ -192,13 +212,15 @@ fn simplify_in(
     term: &[u32],
     budget: u16,
     area: &mut [u32],
+    bodies: &mut [u32],
+    lengths: &mut [u32],
     out: &mut [u32],
 ) -> Simplified
-    requires { ⌜ Accepted (now book) × IsTerm (now term) × (length (now area) ≡ 4096) × (now out ≡ replicate (length (now out)) 0) ⌝ }
+    requires { ⌜ Accepted (now book) × IsTerm (now term) × (length (now area) ≡ 4096) × Cleared (now bodies) (now lengths) × (now out ≡ replicate (length (now out)) 0) ⌝ }
     ensures { λ r. ⌜ RunTold (length (now (out .entry))) (simplifyBy (now (book .entry)) (now (tree .entry)) budget (treeOf (now (term .entry)))) r (now (out .exit)) ⌝ }
 {
     copy(term, area, 0);
-    run(book, tree, budget, area, term.len(), out)
+    run(book, tree, budget, area, term.len(), bodies, lengths, out)
 }
 
 // Simplifies a term by the rules that the tree finds, with at most so many steps.
@@ -227,5 +249,16 @@ pub fn simplify(
         };
     }
     let mut area = [0u32; MOST_WORDS];
-    simplify_in(book, tree, term, budget, &mut area, out)
+    let mut bodies = [0u32; BODIES];
+    let mut lengths = [0u32; LENGTHS];
+    simplify_in(
+        book,
+        tree,
+        term,
+        budget,
+        &mut area,
+        &mut bodies,
+        &mut lengths,
+        out,
+    )
 }

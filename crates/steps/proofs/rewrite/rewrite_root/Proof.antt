@@ -19,7 +19,7 @@ returns-2 c = let s = c .before .before .before .before .before .before .before 
 root-with-requires : tie.Need-root-with-requires
 root-with-requires c κs =
     let s = c .before .before .before .before .before .before .before .before .before .before .before .before .before .before .before .before .before .before .args in
-    (sym (c .before .before .before .before .before .before .before .before .before .check-book .ensures) ∙ c .before .before .before .before .before .before .before .enum-told .given .1, good-tree termLimits (omega arith) (s .term .now) (sym (c .before .before .before .before .before .before .check-term .ensures) ∙ c .before .before .before .before .enum-told2 .given .1), refl, refl, refl, c .before .before .before .before .before .before .before .before .before .before .before .before .clear .ensures ∙ ap (λ (n : ℕ). replicate n 0) (sym (c .before .before .before .before .before .before .before .before .before .before .before .before .clear .kept .0)))
+    (sym (c .before .before .before .before .before .before .before .before .before .check-book .ensures) ∙ c .before .before .before .before .before .before .before .enum-told .given .1, good-tree termLimits (omega arith) (s .term .now) (sym (c .before .before .before .before .before .before .check-term .ensures) ∙ c .before .before .before .before .enum-told2 .given .1), (refl, refl), refl, c .before .before .before .before .before .before .before .before .before .before .before .before .clear .ensures ∙ ap (λ (n : ℕ). replicate n 0) (sym (c .before .before .before .before .before .before .before .before .before .before .before .before .clear .kept .0)))
 
 returns-3 : tie.Need-returns-3
 returns-3 c =

@@ -1,15 +1,16 @@
--- `rules::rewrite_at` meets its contract: how the walk ended, and then what the rule wrote.
+-- `rules::rewrite_at` meets its contract: how the walk ended, what the rule wrote, and that its bodies are cleared.
 use borrow.Author.Needs.{needs}
 use mathlib.Core.Path.{ap, _∙_}
 use lib.ListN.{length}
 use Rattle.term.specs.declared.renumber.Step.the-variants as step
 use Rattle.walk.specs.WithBook.{bookWalk}
-use Rattle.steps.proofs.Rewrites.{at-none, at-damaged, at-rule}
+use Rattle.steps.proofs.Rewrites.{used-cleared, at-none, at-damaged, at-rule}
+use Rattle.steps.proofs.Runs.{zeros-long}
 use Rattle.steps.proofs.rules.rewrite_at.Statement.{statement}
 use Rattle.steps.proofs.rules.rewrite_at.Tie as tie
 
 walk-book-requires : tie.Need-walk-book-requires
-walk-book-requires c κs = (c .before .before .before .before .before .before .before .before .pre .1, c .before .before .before .before .before .before .before .before .pre .2, c .before .before .before .before .before .before .before .before .pre .3, c .before .before .before .before .before .before .before .before .pre .4)
+walk-book-requires c κs = (c .before .before .before .before .before .before .before .before .pre .1, c .before .before .before .before .before .before .before .before .pre .2, c .before .before .before .before .before .before .before .before .pre .3 .0, c .before .before .before .before .before .before .before .before .pre .3 .1)
 
 returns : tie.Need-returns
 returns c = let s = c .before .before .before .before .before .before .before .before .before .before .before .before .before .before .before .args in at-none (s .book .now) (bookWalk (s .book .now) (s .tree .now) (s .part .now)) _ _ _ (rw (c .enum-told .given .1) at (c .before .before .before .before .before .before .walk-book .ensures))
@@ -18,17 +19,20 @@ returns-2 : tie.Need-returns-2
 returns-2 c = let s = c .before .before .before .before .before .before .before .before .before .before .before .before .before .before .before .before .args in at-damaged (s .book .now) (bookWalk (s .book .now) (s .tree .now) (s .part .now)) _ _ _ _ (rw (c .before .at .given .1) at (c .before .before .before .before .before .before .before .walk-book .ensures))
 
 write-rule-requires : tie.Need-write-rule-requires
-write-rule-requires c κs = c .before .before .before .before .before .before .before .before .before .before .walk-book .kept .1 .1 .1 .1 .0 ∙ ap length (c .before .before .before .before .before .before .before .before .before .before .before .before .before .before .before .before .before .before .before .pre .4)
+write-rule-requires c κs = c .before .before .before .before .before .before .before .before .before .before .walk-book .kept .1 .1 .1 .1 .0 ∙ ap length (c .before .before .before .before .before .before .before .before .before .before .before .before .before .before .before .before .before .before .before .pre .3 .1)
+
+clear-used-requires : tie.Need-clear-used-requires
+clear-used-requires c κs = let s = c .before .before .before .before .before .before .before .before .before .before .before .before .before .before .before .before .before .before .before .before .before .before .before .before .args in (c .before .before .before .before .before .before .before .before .before .before .before .before .before .before .before .walk-book .kept .1 .1 .1 .1 .0 ∙ ap length (c .before .before .before .before .before .before .before .before .before .before .before .before .before .before .before .before .before .before .before .before .before .before .before .before .pre .3 .1), used-cleared (bookWalk (s .book .now) (s .tree .now) (s .part .now)) _ _ _ (rw (c .before .before .before .before .before .before .before .before .before .number .given .1) at (c .before .before .before .before .before .before .before .before .before .before .before .before .before .before .before .walk-book .ensures)) (c .before .before .before .before .before .before .before .before .before .before .before .before .before .before .before .walk-book .kept .1 .1 .1 .0 ∙ zeros-long _ 65536 (c .before .before .before .before .before .before .before .before .before .before .before .before .before .before .before .before .before .before .before .before .before .before .before .before .pre .3 .0)) (c .before .before .before .before .before .before .before .before .before .before .before .before .before .before .before .walk-book .kept .1 .1 .1 .1 .0 ∙ ap length (c .before .before .before .before .before .before .before .before .before .before .before .before .before .before .before .before .before .before .before .before .before .before .before .before .pre .3 .1)) .0)
 
 returns-3 : tie.Need-returns-3
 returns-3 c =
-    let s = c .before .before .before .before .before .before .before .before .before .before .before .before .before .before .before .before .before .before .before .before .before .before .before .before .before .args in
-    at-rule (s .book .now) (c .before .before .before .before .before .before .before .before .before .before .before .before .before .before .before .before .before .before .before .before .before .before .before .before .before .pre .0) (s .tree .now) (s .part .now) (c .before .before .before .before .before .before .before .before .before .before .before .before .before .before .before .before .before .before .before .before .before .before .before .before .before .pre .1) (c .before .before .before .before .before .before .before .before .before .before .before .before .before .before .before .before .before .before .before .before .before .before .before .before .before .pre .2) _ _ _ (rw (c .before .before .before .before .before .before .before .before .before .before .number .given .1) at (c .before .before .before .before .before .before .before .before .before .before .before .before .before .before .before .before .walk-book .ensures)) (s .out .now) _ (c .before .before .before .before .before .before .before .before .before .before .before .before .before .before .before .before .before .before .before .before .before .before .before .before .before .pre .5) (step.Done _) (rw (c .before .n .given .1) at (c .before .before .before .before .before .write-rule .ensures))
+    let s = c .before .before .before .before .before .before .before .before .before .before .before .before .before .before .before .before .before .before .before .before .before .before .before .before .before .before .before .before .before .before .before .before .args in
+    (at-rule (s .book .now) (c .before .before .before .before .before .before .before .before .before .before .before .before .before .before .before .before .before .before .before .before .before .before .before .before .before .before .before .before .before .before .before .before .pre .0) (s .tree .now) (s .part .now) (c .before .before .before .before .before .before .before .before .before .before .before .before .before .before .before .before .before .before .before .before .before .before .before .before .before .before .before .before .before .before .before .before .pre .1) (c .before .before .before .before .before .before .before .before .before .before .before .before .before .before .before .before .before .before .before .before .before .before .before .before .before .before .before .before .before .before .before .before .pre .2) _ _ _ (rw (c .before .before .before .before .before .before .before .before .before .before .before .before .before .before .before .before .before .number .given .1) at (c .before .before .before .before .before .before .before .before .before .before .before .before .before .before .before .before .before .before .before .before .before .before .before .walk-book .ensures)) (s .out .now) _ (c .before .before .before .before .before .before .before .before .before .before .before .before .before .before .before .before .before .before .before .before .before .before .before .before .before .before .before .before .before .before .before .before .pre .4) (step.Done _) (rw (c .before .wrote .given .1) at (c .before .before .before .before .before .before .before .before .before .before .before .before .write-rule .ensures)), (c .before .before .before .before .before .before .before .clear-used .ensures .0 ∙ used-cleared (bookWalk (s .book .now) (s .tree .now) (s .part .now)) _ _ _ (rw (c .before .before .before .before .before .before .before .before .before .before .before .before .before .before .before .before .before .number .given .1) at (c .before .before .before .before .before .before .before .before .before .before .before .before .before .before .before .before .before .before .before .before .before .before .before .walk-book .ensures)) (c .before .before .before .before .before .before .before .before .before .before .before .before .before .before .before .before .before .before .before .before .before .before .before .walk-book .kept .1 .1 .1 .0 ∙ zeros-long _ 65536 (c .before .before .before .before .before .before .before .before .before .before .before .before .before .before .before .before .before .before .before .before .before .before .before .before .before .before .before .before .before .before .before .before .pre .3 .0)) (c .before .before .before .before .before .before .before .before .before .before .before .before .before .before .before .before .before .before .before .before .before .before .before .walk-book .kept .1 .1 .1 .1 .0 ∙ ap length (c .before .before .before .before .before .before .before .before .before .before .before .before .before .before .before .before .before .before .before .before .before .before .before .before .before .before .before .before .before .before .before .before .pre .3 .1)) .1, c .before .before .before .before .before .before .before .clear-used .ensures .1))
 
 returns-4 : tie.Need-returns-4
 returns-4 c =
-    let s = c .before .before .before .before .before .before .before .before .before .before .before .before .before .before .before .before .before .before .before .before .before .before .before .before .args in
-    at-rule (s .book .now) (c .before .before .before .before .before .before .before .before .before .before .before .before .before .before .before .before .before .before .before .before .before .before .before .before .pre .0) (s .tree .now) (s .part .now) (c .before .before .before .before .before .before .before .before .before .before .before .before .before .before .before .before .before .before .before .before .before .before .before .before .pre .1) (c .before .before .before .before .before .before .before .before .before .before .before .before .before .before .before .before .before .before .before .before .before .before .before .before .pre .2) _ _ _ (rw (c .before .before .before .before .before .before .before .before .before .number .given .1) at (c .before .before .before .before .before .before .before .before .before .before .before .before .before .before .before .walk-book .ensures)) (s .out .now) _ (c .before .before .before .before .before .before .before .before .before .before .before .before .before .before .before .before .before .before .before .before .before .before .before .before .pre .5) step.Stuck (rw (c .enum-told2 .given .1) at (c .before .before .before .before .write-rule .ensures))
+    let s = c .before .before .before .before .before .before .before .before .before .before .before .before .before .before .before .before .before .before .before .before .before .before .before .before .before .before .before .before .before .before .before .args in
+    (at-rule (s .book .now) (c .before .before .before .before .before .before .before .before .before .before .before .before .before .before .before .before .before .before .before .before .before .before .before .before .before .before .before .before .before .before .before .pre .0) (s .tree .now) (s .part .now) (c .before .before .before .before .before .before .before .before .before .before .before .before .before .before .before .before .before .before .before .before .before .before .before .before .before .before .before .before .before .before .before .pre .1) (c .before .before .before .before .before .before .before .before .before .before .before .before .before .before .before .before .before .before .before .before .before .before .before .before .before .before .before .before .before .before .before .pre .2) _ _ _ (rw (c .before .before .before .before .before .before .before .before .before .before .before .before .before .before .before .before .number .given .1) at (c .before .before .before .before .before .before .before .before .before .before .before .before .before .before .before .before .before .before .before .before .before .before .walk-book .ensures)) (s .out .now) _ (c .before .before .before .before .before .before .before .before .before .before .before .before .before .before .before .before .before .before .before .before .before .before .before .before .before .before .before .before .before .before .before .pre .4) step.Stuck (rw (c .enum-told2 .given .1) at (c .before .before .before .before .before .before .before .before .before .before .before .write-rule .ensures)), (c .before .before .before .before .before .before .clear-used .ensures .0 ∙ used-cleared (bookWalk (s .book .now) (s .tree .now) (s .part .now)) _ _ _ (rw (c .before .before .before .before .before .before .before .before .before .before .before .before .before .before .before .before .number .given .1) at (c .before .before .before .before .before .before .before .before .before .before .before .before .before .before .before .before .before .before .before .before .before .before .walk-book .ensures)) (c .before .before .before .before .before .before .before .before .before .before .before .before .before .before .before .before .before .before .before .before .before .before .walk-book .kept .1 .1 .1 .0 ∙ zeros-long _ 65536 (c .before .before .before .before .before .before .before .before .before .before .before .before .before .before .before .before .before .before .before .before .before .before .before .before .before .before .before .before .before .before .before .pre .3 .0)) (c .before .before .before .before .before .before .before .before .before .before .before .before .before .before .before .before .before .before .before .before .before .before .walk-book .kept .1 .1 .1 .1 .0 ∙ ap length (c .before .before .before .before .before .before .before .before .before .before .before .before .before .before .before .before .before .before .before .before .before .before .before .before .before .before .before .before .before .before .before .pre .3 .1)) .1, c .before .before .before .before .before .before .clear-used .ensures .1))
 
 pub rewrite-at-spec : {M : Type 1} → statement M
 rewrite-at-spec =
@@ -39,6 +43,7 @@ rewrite-at-spec =
     (λ c. search needs)
     (λ c. search needs)
     write-rule-requires
+    clear-used-requires
     (λ c. search needs)
     (λ c. search needs)
     (λ c. search needs)

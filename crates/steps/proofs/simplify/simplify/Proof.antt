@@ -18,13 +18,13 @@ returns-2 c = let s = c .before .before .before .before .before .before .before 
 
 simplify-in-requires : tie.Need-simplify-in-requires
 simplify-in-requires c κs =
-    let s = c .before .before .before .before .before .before .before .before .before .before .before .before .before .before .before .before .args in
-    (sym (c .before .before .before .before .before .before .before .check-book .ensures) ∙ c .before .before .before .before .before .enum-told .given .1, good-tree termLimits (omega arith) (s .term .now) (sym (c .before .before .before .before .check-term .ensures) ∙ c .before .before .enum-told2 .given .1), refl, c .before .before .before .before .before .before .before .before .before .before .clear .ensures ∙ ap (λ (n : ℕ). replicate n 0) (sym (c .before .before .before .before .before .before .before .before .before .before .clear .kept .0)))
+    let s = c .before .before .before .before .before .before .before .before .before .before .before .before .before .before .before .before .before .before .args in
+    (sym (c .before .before .before .before .before .before .before .before .before .check-book .ensures) ∙ c .before .before .before .before .before .before .before .enum-told .given .1, good-tree termLimits (omega arith) (s .term .now) (sym (c .before .before .before .before .before .before .check-term .ensures) ∙ c .before .before .before .before .enum-told2 .given .1), refl, (refl, refl), c .before .before .before .before .before .before .before .before .before .before .before .before .clear .ensures ∙ ap (λ (n : ℕ). replicate n 0) (sym (c .before .before .before .before .before .before .before .before .before .before .before .before .clear .kept .0)))
 
 returns-3 : tie.Need-returns-3
 returns-3 c =
-    let s = c .before .before .before .before .before .before .before .before .before .before .before .before .before .before .before .before .before .before .before .before .args in
-    simplify-run (length (s .out .now)) (s .book .now) (s .tree .now) (s .term .now) (s .budget) _ _ (sym (c .before .before .before .before .before .before .before .before .before .before .before .check-book .ensures) ∙ c .before .before .before .before .before .before .before .before .before .enum-told .given .1) (sym (c .before .before .before .before .before .before .before .before .check-term .ensures) ∙ c .before .before .before .before .before .before .enum-told2 .given .1) (rw (c .before .before .before .before .before .before .before .before .before .before .before .before .before .before .clear .kept .0) at (c .before .before .before .simplify-in .ensures))
+    let s = c .before .before .before .before .before .before .before .before .before .before .before .before .before .before .before .before .before .before .before .before .before .before .before .before .args in
+    simplify-run (length (s .out .now)) (s .book .now) (s .tree .now) (s .term .now) (s .budget) _ _ (sym (c .before .before .before .before .before .before .before .before .before .before .before .before .before .before .before .check-book .ensures) ∙ c .before .before .before .before .before .before .before .before .before .before .before .before .before .enum-told .given .1) (sym (c .before .before .before .before .before .before .before .before .before .before .before .before .check-term .ensures) ∙ c .before .before .before .before .before .before .before .before .before .before .enum-told2 .given .1) (rw (c .before .before .before .before .before .before .before .before .before .before .before .before .before .before .before .before .before .before .clear .kept .0) at (c .before .before .before .before .before .simplify-in .ensures))
 
 pub simplify-spec : {M : Type 1} → statement M
 simplify-spec =
@@ -40,6 +40,8 @@ simplify-spec =
     (λ c. search needs)
     (λ c. search needs)
     returns-2
+    (λ c. search needs)
+    (λ c. search needs)
     (λ c. search needs)
     (λ c. search needs)
     simplify-in-requires
