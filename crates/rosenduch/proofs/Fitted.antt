@@ -1,0 +1,54 @@
+-- The lowest rule that fits a term, in the demand's words: with the only bodies, and no other rule is the lowest.
+use mathlib.Core.Path.{_≡_, sym, ap, _∙_}
+use mathlib.Core.List.{List}
+use mathlib.Core.Option.{none, some}
+use Prim.Native.Nat.{ℕ, suc, _≤_, _<_}
+use native.Mathlib.Omega.{arith}
+use native.Mathlib.Decide.{decLe}
+use lib.ListN.{getD}
+use Rattle.term.specs.declared.check.Checked.the-variants.{Good}
+use Rattle.term.specs.Row.{Row, words}
+use Rattle.book.specs.Book.{Rule, checkBook, ruleAt}
+use Rattle.book.proofs.Laws.{rule-number}
+use Rattle.fit.specs.Fit.{IsBody}
+use Rattle.fit.specs.Match.{leftIn}
+use Rattle.fit.specs.Lowest.{Fitting}
+use Rattle.fit.proofs.Laws.{WithinTerm, unique, accepted-good, LowestIs, LowestFits, lowest-none, lowest-some}
+use Rattle.walk.specs.Demand.{NothingFits, LowestFit}
+
+module _ (book : List ℕ) (accepted : checkBook book ≡ Good) (t : Row) (i : IsBody t) where
+  within : WithinTerm t
+  within = record { formed = i .formed; few = i .few; low = i .low; short = i .short }
+
+  pub nothing-fits : LowestIs book 0 (getD book 0 0) t none → NothingFits book (words t)
+  nothing-fits l number rule q b f = lowest-none book 0 (getD book 0 0) t l number (omega arith) (rule-number book number rule q) rule q b f
+
+  pub lowest-fit : (f : Fitting) → LowestIs book 0 (getD book 0 0) t (some f) → (rule : Rule) × LowestFit book (words t) (f .number) rule (f .bodies)
+  lowest-fit f l = shown (lowest-some book 0 (getD book 0 0) t f l)
+    where
+      shown : LowestFits book 0 (getD book 0 0) t f → (rule : Rule) × LowestFit book (words t) (f .number) rule (f .bodies)
+      shown s = (
+        s .rule,
+        record {
+          is = s .found;
+          fits = s .fits;
+          only = λ c g x h. unique (s .rule .vars) (leftIn (s .rule)) (accepted-good book accepted (f .number) (s .rule) (s .found)) t within (i .one) c (f .bodies) g (s .fits) x h;
+          lowest = λ m h. s .earlier m (omega arith) h;
+        },
+      )
+
+-- ---- two that are the lowest are one
+module _ (book ws : List ℕ) (n m : ℕ) (rule other : Rule) (b c : ℕ → Row) (low : LowestFit book ws n rule b) (also : LowestFit book ws m other c) where
+  pub same-number : n ≡ m
+  same-number = go (decLe (suc n) m) (decLe (suc m) n)
+    where
+      go : Dec (suc n ≤ m) → Dec (suc m ≤ n) → n ≡ m
+      go (yes h) d = absurd (also .lowest n h rule (low .is) b (low .fits))
+      go (no h) (yes k) = absurd (low .lowest m k other (also .is) c (also .fits))
+      go (no h) (no k) = omega arith
+
+  pub same-rule : rule ≡ other
+  same-rule = let e : some rule ≡ some other = sym (low .is) ∙ ap (ruleAt book) same-number ∙ also .is in cc
+
+  pub same-bodies : (x : ℕ) → x < rule .vars → b x ≡ c x
+  same-bodies x h = also .only b (rw same-rule at (low .fits)) x (rw same-rule at h)

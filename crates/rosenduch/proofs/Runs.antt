@@ -1,0 +1,181 @@
+-- Simplifying: a run of the machine is a run of steps as the page defines them, by the walk for every tree; with the compiled tree each walk finds
+-- the lowest rule that fits, so the run is one by fit alone.
+use mathlib.Core.Path.{_≡_, refl, sym, ap, _∙_}
+use mathlib.Core.Bool.{true}
+use mathlib.Core.List.{List}
+use Prim.Native.Nat.{ℕ, zero, suc, _≤_, _<_}
+use native.Mathlib.Omega.{arith}
+use native.Mathlib.Decide.{decLe}
+use lib.Dec.{leb}
+use lib.ListN.{length}
+use borrow.Author.Tests.{le-leb, lt-leb}
+use Rattle.term.specs.declared.check.Checked.the-variants.{Good}
+use Rattle.term.specs.declared.answer.Answer.{Answer}
+use Rattle.term.specs.declared.answer.Answer.the-variants.{Short}
+use Rattle.term.specs.Word.{pick}
+use Rattle.term.specs.Row.{Row, words}
+use Rattle.term.specs.Check.{IsTerm, termLimits}
+use Rattle.term.specs.Part.{padded}
+use Rattle.term.proofs.Laws.{tree-good, padded-fits}
+use Rattle.book.specs.Book.{checkBook}
+use Rattle.fit.specs.Fit.{IsBody}
+use Rattle.fit.specs.Match.{treeOf}
+use Rattle.fit.specs.Build.{withinLimits}
+use Rattle.fit.proofs.Laws.{tree-of}
+use Rattle.steps.specs.Rewrite.{rewritten}
+use Rattle.steps.specs.Offset.{partAt, spliced}
+use Rattle.steps.specs.Step.{Nowhere, FoundAt, lowestOffset, Becomes}
+use Rattle.steps.specs.Simplify.{Run, Stopped, Ended, simplifyBy, simplifyAnswer, simplifyWords, simplifySteps}
+use Rattle.steps.specs.declared.simplify.Simplified.{Simplified}
+use Rattle.steps.proofs.Laws.{StepsTo, EndsAs, StopsAs, RunIs, run-is, part-term, step-term, FirstFit, compiled-offset, rule-writes-right, simplify-runs, stopped-run, ended-run, steps-none, steps-more, step-made, makes-step}
+use Rattle.steps.proofs.Laws as machine
+use Rattle.rosenduch.specs.Promises.{SimplifyPromised}
+use Rattle.rosenduch.specs.Steps.{Leads, Ends, rests, used, Gives, given, short, over, broken, Runs, RestsBy, NextBy, BreaksBy, RestsFit, NextFit, BreaksNever}
+use Rattle.rosenduch.specs.Demands.{CompiledTree}
+use Rattle.rosenduch.proofs.Trees.{accepted-book, tree-lies, tree-short}
+use Rattle.rosenduch.proofs.Fitted.{nothing-fits, lowest-fit}
+
+-- ---- by any tree
+module _ (book tree : List ℕ) where
+  abbrev LeadsBy : ℕ → Row → Row → Type 0
+  LeadsBy = Leads (NextBy book tree)
+
+  abbrev EndsBy : ℕ → ℕ → Row → Answer → Type 0
+  EndsBy = Ends (RestsBy book tree) (NextBy book tree)
+
+  abbrev GivesBy : ℕ → ℕ → Row → Simplified → List ℕ → Type 0
+  GivesBy = Gives (RestsBy book tree) (NextBy book tree) (BreaksBy book tree)
+
+  abbrev RunsBy : ℕ → ℕ → Row → Simplified → List ℕ → Type 0
+  RunsBy = Runs (RestsBy book tree) (NextBy book tree) (BreaksBy book tree)
+
+  leads : (n : ℕ) (t v : Row) → StepsTo book tree n t v → LeadsBy n t v
+  unfolding Leads
+  leads zero t v s = steps-none book tree t v s
+  leads (suc n) t v s =
+      let k = steps-more book tree n t v s in
+      let m = step-made book tree t (k .0) (k .1) in
+      (k .0, (m .0, m .1, m .2, m .3), m .4, leads n (k .0) v (k .2))
+
+  ends : (budget n : ℕ) (v : Row) (a : Answer) → EndsAs book tree budget n v a → EndsBy budget n v a
+  ends budget n v a (machine.rests e q) = rests e q
+  ends budget n v a (machine.used e m at f q) = used e m (spliced v at (rewritten book f)) (at, f, q, refl)
+
+  -- the numbers that are said are those of the run
+  led : (steps n : ℕ) (t v : Row) → steps ≡ n → LeadsBy n t v → LeadsBy steps t v
+  led steps n t v e l = rw e l
+
+  ended : (budget steps n : ℕ) (v : Row) (answer a : Answer) → steps ≡ n → answer ≡ a → EndsBy budget n v a → EndsBy budget steps v answer
+  ended budget steps n v answer a e q x = rw (e, q) x
+
+  module _ (budget room : ℕ) (t : Row) (r : Simplified) (out : List ℕ) where
+    gives-end : (n : ℕ) (a : Answer) (v : Row) → r .steps ≡ n → EndsBy budget n v a → r .answer ≡ pick (leb (length (words v)) room) a Short → out ≡ padded room (words v) → GivesBy budget room v r out
+    gives-end n a v e x p q = go (decLe (length (words v)) room)
+      where
+        go : Dec (length (words v) ≤ room) → GivesBy budget room v r out
+        go (yes h) =
+            let s = p ∙ ap (λ b. pick b a Short) (le-leb (length (words v)) room h) in
+            given (ended budget (r .steps) n v (r .answer) a e s x) (record { fits = h; words-are = q ∙ padded-fits room (words v) h })
+        go (no h) =
+            let w : room < length (words v) = omega arith in
+            short a (ended budget (r .steps) n v a a e refl x) w (p ∙ ap (λ b. pick b a Short) (lt-leb (length (words v)) room w))
+
+    gives-stop : (n : ℕ) (a : Answer) (v : Row) → r .steps ≡ n → r .answer ≡ a → StopsAs book tree budget n v a → GivesBy budget room v r out
+    gives-stop n a v e p (machine.broken address q x) = broken address x (p ∙ q)
+    gives-stop n a v e p (machine.over q m at f x w) = over (omega (arith, e, m)) (spliced v at (rewritten book f)) (at, f, x, refl) w (p ∙ q)
+
+    run-by : (run : Run) → RunIs book tree budget t run → r .answer ≡ simplifyAnswer room run → out ≡ simplifyWords room run → r .steps ≡ simplifySteps run → RunsBy budget room t r out
+    run-by (Ended n a v) i p q s =
+        let k = ended-run room n a v in
+        let e = s ∙ k .2 in
+        record {
+          last = v;
+          counted = led (r .steps) n t v e (leads n t v (i .0));
+          within = omega (arith, e, i .1);
+          gives = gives-end n a v e (ends budget n v a (i .2)) (p ∙ k .0) (q ∙ k .1);
+        }
+    run-by (Stopped n a) i p q s =
+        let k = stopped-run room n a in
+        let e = s ∙ k .2 in
+        record {
+          last = i .0;
+          counted = led (r .steps) n t (i .0) e (leads n t (i .0) (i .1));
+          within = omega (arith, e, i .2);
+          gives = gives-stop n a (i .0) e (p ∙ k .0) (i .3);
+        }
+
+  pub runs-by-tree : (term : List ℕ) → checkBook book ≡ Good → IsTerm term → (budget room : ℕ) (r : Simplified) (out : List ℕ) → SimplifyPromised book tree term budget room r out
+      → Runs (RestsBy book tree) (NextBy book tree) (BreaksBy book tree) budget room (treeOf term) r out
+  runs-by-tree term g i budget room r out p =
+      let e = simplify-runs book tree term budget g (tree-good termLimits term i) in
+      run-by budget room (treeOf term) r out (simplifyBy book tree budget (treeOf term)) (run-is book tree budget (treeOf term))
+      (p .0 ∙ ap (simplifyAnswer room) e) (p .1 ∙ ap (simplifyWords room) e) (p .2 ∙ ap simplifySteps e)
+
+-- ---- by the compiled tree
+module _ (book tree : List ℕ) (k : CompiledTree book tree) where
+  abbrev accepted : checkBook book ≡ Good
+  accepted = accepted-book book tree k
+
+  first : (t : Row) → IsBody t → FirstFit book t (lowestOffset book tree t)
+  first t i = compiled-offset book accepted tree (tree-short book tree k) (tree-lies book tree k) t i
+
+  nothing-at : (t : Row) → IsBody t → RestsBy book tree t → RestsFit book t
+  nothing-at t i e at h = nothing-fits book accepted (partAt t at) (part-term t i at h) (rested at h)
+    where
+      rested : FirstFit book t Nowhere
+      rested = rw e at (first t i)
+
+  next-fit : (t u : Row) → IsBody t → NextBy book tree t u → NextFit book t u
+  next-fit t u i x = shown (rw (x .2) at (first t i))
+    where
+      shown : FirstFit book t (FoundAt (x .0) (x .1)) → NextFit book t u
+      shown f =
+          let s = lowest-fit book accepted (partAt t (x .0)) (part-term t i (x .0) (f .0)) (x .1) (f .1) in
+          record {
+            at = x .0;
+            inside = f .0;
+            earlier = λ j h. nothing-fits book accepted (partAt t j) (part-term t i j (omega (arith, h, f .0))) (f .2 j h);
+            number = x .1 .number;
+            rule = s .0;
+            bodies = x .1 .bodies;
+            lowest = s .1;
+            is = x .3 ∙ ap (spliced t (x .0)) (rule-writes-right book (x .1) (s .0) (s .1 .is));
+          }
+
+  breaks-never : (t : Row) (at : ℕ) → IsBody t → BreaksBy book tree t at → ⊥
+  breaks-never t at i e = rw e at (first t i)
+
+  next-term : (t u : Row) → IsBody t → NextBy book tree t u → withinLimits u ≡ true → IsBody u
+  next-term t u i x w =
+      let v : withinLimits (spliced t (x .0) (rewritten book (x .1))) ≡ true = sym (ap withinLimits (x .3)) ∙ w in
+      step-term book accepted tree t u i (makes-step book tree t (x .0) (x .1) (x .2) v ∙ ap Becomes (sym (x .3)))
+
+  abbrev LeadsFit : ℕ → Row → Row → Type 0
+  LeadsFit = Leads (NextFit book)
+
+  leads-fit : (n : ℕ) (t v : Row) → IsBody t → LeadsBy book tree n t v → LeadsFit n t v × IsBody v
+  unfolding Leads
+  leads-fit zero t v i l = (l, rw l at i)
+  leads-fit (suc n) t v i l =
+      let m = leads-fit n (l .0) v (next-term t (l .0) i (l .1) (l .2)) (l .3) in
+      ((l .0, next-fit t (l .0) i (l .1), l .2, m .0), m .1)
+
+  ends-fit : (budget n : ℕ) (v : Row) (a : Answer) → IsBody v → EndsBy book tree budget n v a → Ends (RestsFit book) (NextFit book) budget n v a
+  ends-fit budget n v a i (rests e q) = rests e (nothing-at v i q)
+  ends-fit budget n v a i (used e m u x) = used e m u (next-fit v u i x)
+
+  gives-fit : (budget room : ℕ) (v : Row) (r : Simplified) (out : List ℕ) → IsBody v → GivesBy book tree budget room v r out → Gives (RestsFit book) (NextFit book) BreaksNever budget room v r out
+  gives-fit budget room v r out i (given x l) = given (ends-fit budget (r .steps) v (r .answer) i x) l
+  gives-fit budget room v r out i (short a x h e) = short a (ends-fit budget (r .steps) v a i x) h e
+  gives-fit budget room v r out i (over h u x w e) = over h u (next-fit v u i x) w e
+  gives-fit budget room v r out i (broken at x e) = absurd (breaks-never v at i x)
+
+  pub runs-by-fit : (term : List ℕ) → IsTerm term → (budget room : ℕ) (r : Simplified) (out : List ℕ) → SimplifyPromised book tree term budget room r out
+      → Runs (RestsFit book) (NextFit book) BreaksNever budget room (treeOf term) r out
+  runs-by-fit term i budget room r out p =
+      let x = runs-by-tree book tree term accepted i budget room r out p in
+      let l = leads-fit (r .steps) (treeOf term) (x .last) (term-body term i) (x .counted) in
+      record { last = x .last; counted = l .0; within = x .within; gives = gives-fit budget room (x .last) r out (l .1) (x .gives) }
+    where
+      term-body : (ws : List ℕ) → IsTerm ws → IsBody (treeOf ws)
+      term-body ws j = rw (tree-of termLimits ws j) (record { one = j .one; formed = j .formed; few = j .few; low = j .low; short = rw (j .same) at (j .short) })

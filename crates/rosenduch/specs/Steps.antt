@@ -1,0 +1,83 @@
+-- Document 01, "Right sides and simplifying": how a run of steps ends, over what is said of one step. It is said twice: of any tree, whole or
+-- damaged, by its walk; and of the tree compiled from the book, by fit alone.
+use Prim.Native.Nat.{ℕ, zero, suc, _-_, _≤_, _<_}
+use mathlib.Core.Path.{_≡_}
+use mathlib.Core.Bool.{true, false}
+use mathlib.Core.List.{List, _++_}
+use lib.ListN.{length, replicate}
+use Rattle.term.specs.declared.answer.Answer.{Answer}
+use Rattle.term.specs.declared.answer.Answer.the-variants.{Done, BudgetUsed, Short, Damaged, Over}
+use Rattle.term.specs.Row.{Row, words}
+use Rattle.book.specs.Book.{Rule}
+use Rattle.fit.specs.Match.{treeOf}
+use Rattle.fit.specs.Lowest.{Fitting}
+use Rattle.fit.specs.Build.{withinLimits}
+use Rattle.walk.specs.Demand.{NothingFits, LowestFit}
+use Rattle.steps.specs.Right.{write}
+use Rattle.steps.specs.Rewrite.{rewritten}
+use Rattle.steps.specs.Offset.{partAt, spliced}
+use Rattle.steps.specs.Step.{Nowhere, FoundAt, Broken, lowestOffset}
+use Rattle.steps.specs.declared.simplify.Simplified.{Simplified}
+
+-- the term's words and then zeros
+pub record Leaves (room : ℕ) (t : Row) (out : List ℕ) : Type 0 where
+  pub fits : length (words t) ≤ room
+  pub words-are : out ≡ words t ++ replicate (room - length (words t)) 0
+
+-- given what the next step makes of a term: so many steps lead from a term to another, each within the limits
+module _ (Next : Row → Row → Type 0) where
+  unfoldable pub Leads : ℕ → Row → Row → Type 0
+  Leads zero t v = t ≡ v
+  Leads (suc n) t v = (u : Row) × Next t u × (withinLimits u ≡ true) × Leads n u v
+
+-- given also when a term rests: "until no offset has one or the budget is used"
+module _ (Rests : Row → Type 0) (Next : Row → Row → Type 0) where
+  pub data Ends (budget n : ℕ) (v : Row) (a : Answer) : Type 0 where
+    rests : a ≡ Done → Rests v → Ends budget n v a
+    used : a ≡ BudgetUsed → n ≡ budget → (u : Row) → Next v u → Ends budget n v a
+
+-- given also when a walk meets a damaged node before it finds a rule
+module _ (Rests : Row → Type 0) (Next : Row → Row → Type 0) (Breaks : Row → ℕ → Type 0) where
+  -- what is answered and left after the last step
+  pub data Gives (budget room : ℕ) (v : Row) (r : Simplified) (out : List ℕ) : Type 0 where
+    given : Ends Rests Next budget (r .steps) v (r .answer) → Leaves room v out → Gives budget room v r out
+    short : (a : Answer) → Ends Rests Next budget (r .steps) v a → room < length (words v) → r .answer ≡ Short → Gives budget room v r out
+    over : r .steps < budget → (u : Row) → Next v u → withinLimits u ≡ false → r .answer ≡ Over → Gives budget room v r out
+    broken : (at : ℕ) → Breaks v at → r .answer ≡ Damaged at → Gives budget room v r out
+
+  -- "the steps counted are the steps of this definition"
+  pub record Runs (budget room : ℕ) (t : Row) (r : Simplified) (out : List ℕ) : Type 0 where
+    pub last : Row
+    pub counted : Leads Next (r .steps) t last
+    pub within : r .steps ≤ budget
+    pub gives : Gives budget room last r out
+
+-- ---- by any tree: "A step rewrites at the lowest offset where the walk finds a rule."
+module _ (book tree : List ℕ) where
+  abbrev pub RestsBy : Row → Type 0
+  RestsBy v = lowestOffset book tree v ≡ Nowhere
+
+  abbrev pub NextBy : Row → Row → Type 0
+  NextBy v u = (at : ℕ) × (f : Fitting) × (lowestOffset book tree v ≡ FoundAt at f) × (u ≡ spliced v at (rewritten book f))
+
+  abbrev pub BreaksBy : Row → ℕ → Type 0
+  BreaksBy v at = lowestOffset book tree v ≡ Broken at
+
+-- ---- by fit alone: a step rewrites at the lowest offset where a rule fits, by the lowest rule that fits there
+module _ (book : List ℕ) where
+  abbrev pub RestsFit : Row → Type 0
+  RestsFit v = (k : ℕ) → k < length (words v) → NothingFits book (words (partAt v k))
+
+  pub record NextFit (v u : Row) : Type 0 where
+    pub at : ℕ
+    pub inside : at < length (words v)
+    pub earlier : (k : ℕ) → k < at → NothingFits book (words (partAt v k))
+    pub number : ℕ
+    pub rule : Rule
+    pub bodies : ℕ → Row
+    pub lowest : LowestFit book (words (partAt v at)) number rule bodies
+    pub is : u ≡ spliced v at (write bodies 0 (treeOf (rule .right)))
+
+-- its tree is never damaged
+abbrev pub BreaksNever : Row → ℕ → Type 0
+BreaksNever v at = ⊥

@@ -1,0 +1,2 @@
+// The public operations of Rosenduch, one function each.
+pub mod operations;
