@@ -1,0 +1,34 @@
+-- `blocks::write_refusal` meets its contract: its two lines are written one after the other.
+use borrow.Author.Needs.{needs}
+use native.Mathlib.Omega.{arith}
+use Rattle.text.proofs.Laws.{number-text-short}
+use Rattle.simplify.specs.Printed.{answerKey}
+use Rattle.simplify.proofs.BlockTexts.{number-small, refusal-wrote}
+use Rattle.simplify.proofs.blocks.write_refusal.Statement.{statement}
+use Rattle.simplify.proofs.blocks.write_refusal.Tie as tie
+
+write-number-line-requires-2 : tie.Need-write-number-line-requires-2
+write-number-line-requires-2 c κs =
+    let s = c .before .before .before .before .before .before .before .before .before .before .args in
+    let n = c .before .before .before .before .before .before .number .ensures in
+    let m = number-small (s .answer) in
+    (omega (arith, c .before .before .before .before .before .write-number-line .ensures .0, number-text-short answerKey (c .before .before .before .before .before .before .number .result) (omega (arith, n, m))), search needs, omega (arith, c .place .ensures, c .before .before .before .before .before .before .before .before .before .before .pre))
+
+returns : tie.Need-returns
+returns c =
+    let s = c .before .before .before .before .before .before .before .before .before .before .before .before .before .args in
+    refusal-wrote (s .answer) (s .out .now) (c .before .before .before .before .before .before .before .before .write-number-line .last .0) _ (c .before .before .before .before .before .before .before .before .write-number-line .result) _ (c .before .before .before .before .before .before .before .before .before .before .before .before .before .pre) (rw (c .before .before .before .before .before .before .before .before .before .number .ensures) at (c .before .before .before .before .before .before .before .before .write-number-line .ensures)) (rw (c .before .before .before .place .ensures) at (c .before .before .write-number-line2 .ensures))
+
+pub write-refusal-spec : {M : Type 1} → statement M
+write-refusal-spec =
+    tie.close
+    (tie.spec
+    (λ c. search needs)
+    (λ c κs. search needs)
+    (λ c κs. (omega arith, search needs, omega (arith, c .number .ensures, number-small (c .before .before .before .before .args .answer))))
+    (λ c. search needs)
+    (λ c κs. search needs)
+    (λ c. search needs)
+    write-number-line-requires-2
+    (λ c. search needs)
+    returns)

@@ -1,0 +1,27 @@
+-- `input::read_term_line` meets its contract: the key stands there and then the line of tokens, or one does not.
+use borrow.Author.Needs.{needs}
+use Rattle.simplify.proofs.Lines.{no-key, line-there}
+use Rattle.simplify.proofs.input.read_term_line.Statement.{statement}
+use Rattle.simplify.proofs.input.read_term_line.Tie as tie
+
+returns : tie.Need-returns
+returns c =
+    let s = c .before .before .before .before .before .before .args in no-key (s .text .now) (s .at) (rw (c .enum-told .given .1) at (c .before .before .read-key .ensures))
+
+returns-2 : tie.Need-returns-2
+returns-2 c =
+    let s = c .before .before .before .before .before .before .before .before .before .before .before .args in
+    line-there (s .text .now) (s .at) (c .before .before .before .before .before .tokens .given .0 .0) (s .words .now) (c .before .before .read-line .last .1 .1 .1 .0) (c .before .before .read-line .result) (c .before .before .before .before .before .before .before .before .before .before .before .pre) (rw (c .before .before .before .before .before .tokens .given .1) at (c .before .before .before .before .before .before .before .read-key .ensures)) (c .before .before .read-line .ensures)
+
+pub read-term-line-spec : {M : Type 1} → statement M
+read-term-line-spec =
+    tie.close
+    (tie.spec
+    (λ c. search needs)
+    (λ c κs. search needs)
+    (λ c. search needs)
+    (λ c. search needs)
+    returns
+    (λ c κs. search needs)
+    (λ c. search needs)
+    returns-2)
