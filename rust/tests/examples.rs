@@ -1,0 +1,97 @@
+//! Document 01's examples through the safe functions.
+
+use rosenduch::Refused;
+
+const BOOK_A: &str = "book=1\nrules=3\n\
+    rule=0\nvars=1\nleft=s2.2 m0.0 m0.0\nright=m0.0\n\
+    rule=1\nvars=1\nleft=s3.1 l m0.0\nright=m0.0\n\
+    rule=2\nvars=1\nleft=s3.1 l s4.1 m0.1 v1\nright=s4.1 s3.1 l m0.1 v1\n";
+
+/// Enough for every call; a thread of the test runner has less.
+const STACK: usize = 8 << 20;
+
+fn with_stack(test: fn() -> Result<(), Refused>) {
+    let run = std::thread::Builder::new().stack_size(STACK).spawn(test).unwrap();
+    run.join().unwrap().unwrap();
+}
+
+fn term(text: &str) -> Result<Vec<u32>, Refused> {
+    rosenduch::read_term(format!("{text}\n"))
+}
+
+#[test]
+fn book_a_simplifies_both_terms() {
+    with_stack(|| {
+        let book = rosenduch::read_book(BOOK_A)?;
+        let tree = rosenduch::compile(&book)?;
+        assert_eq!(tree.len(), 51);
+        assert_eq!(tree[..8], [2, 0, 2, 131_074, 8, 65_539, 20, 50]);
+        for (from, to) in [("s2.2 s3.1 l s7.0 s7.0", "s7.0\n"), ("s3.1 l s4.1 s4.1 v1", "s4.1 s4.1 s3.1 l v1\n")] {
+            let done = rosenduch::simplify(&book, &tree, &term(from)?, 1_000)?;
+            assert_eq!((done.steps, done.budget_used), (2, false));
+            assert_eq!(rosenduch::write_term(&done.term)?, to);
+        }
+        Ok(())
+    });
+}
+
+#[test]
+fn text_is_read_and_written() {
+    with_stack(|| {
+        let book = rosenduch::read_book(BOOK_A)?;
+        assert_eq!(rosenduch::check_book(&book), Ok(()));
+        assert_eq!(rosenduch::write_book(&book)?, BOOK_A);
+        Ok(())
+    });
+}
+
+#[test]
+fn marked_matches_of_book_a() {
+    with_stack(|| {
+        let book = rosenduch::read_book(BOOK_A)?;
+        let tree = rosenduch::compile(&book)?;
+        for (of, rule, body) in
+            [("s2.2 s7.0 s7.0", 0, "s7.0"), ("s3.1 l v2", 1, "v1"), ("s3.1 l s4.1 v1", 2, "v1"), ("s3.1 l s4.1 s7.0", 1, "s4.1 s7.0")]
+        {
+            let of = term(of)?;
+            let bodies = vec![term(body)?];
+            let found = rosenduch::match_tree(&tree, &of)?.unwrap();
+            assert_eq!((found.rule, &found.bodies), (rule, &bodies));
+            assert_eq!(rosenduch::match_rule(&book, rule, &of)?, Some(bodies.clone()));
+            assert_eq!(rosenduch::build_left(&book, rule, &bodies)?, of);
+        }
+        for of in ["s2.2 s7.0 s8.0", "s3.1 l v1"] {
+            assert_eq!(rosenduch::match_tree(&tree, &term(of)?)?, None);
+            assert_eq!(rosenduch::rewrite_root(&book, &tree, &term(of)?)?, None);
+        }
+        Ok(())
+    });
+}
+
+#[test]
+fn a_zero_word_is_no_end() {
+    with_stack(|| {
+        let book = rosenduch::read_book("book=1\nrules=1\nrule=0\nvars=1\nleft=s1.1 m0.0\nright=s2.2 m0.0 s0.0\n")?;
+        let tree = rosenduch::compile(&book)?;
+        let made = rosenduch::rewrite_root(&book, &tree, &term("s1.1 s0.0")?)?;
+        assert_eq!(made, Some(term("s2.2 s0.0 s0.0")?));
+        Ok(())
+    });
+}
+
+#[test]
+fn refusals_have_number_and_place() {
+    with_stack(|| {
+        assert_eq!(rosenduch::check_term(&[]), Err(Refused { number: 11, at: 0 }));
+        assert_eq!(rosenduch::check_book(&[]), Err(Refused { number: 12, at: 0 }));
+        assert_eq!(rosenduch::read_term("s7.0"), Err(Refused { number: 10, at: 1 }));
+        let book = rosenduch::read_book(BOOK_A)?;
+        let refused = rosenduch::match_rule(&book, 3, &[]).unwrap_err();
+        assert_eq!(refused, Refused { number: 16, at: 3 });
+        assert_eq!(refused.to_string(), "no such rule (number 16, at 3)");
+        let many = vec![vec![7]; 17];
+        let refused = rosenduch::build_left(&book, 0, &many).unwrap_err();
+        assert_eq!(refused, Refused { number: 11, at: 16 });
+        Ok(())
+    });
+}
