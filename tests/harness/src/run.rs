@@ -1,0 +1,136 @@
+//! Runs cases on two threads, each with a stack that is enough for every call.
+
+use std::panic::{catch_unwind, AssertUnwindSafe};
+use std::sync::atomic::{AtomicBool, AtomicU64, Ordering};
+use std::sync::Arc;
+use std::thread::{Builder, JoinHandle};
+use std::time::{Duration, Instant};
+
+use crate::case::OPERATIONS;
+use crate::edges;
+use crate::make::made;
+use crate::outcome::compare;
+use crate::tally::Tally;
+
+const THREADS: usize = 2;
+const STACK: usize = 16 << 20;
+
+/// How many seeds a thread takes at once, and after how many an endless run says how far it is.
+const BLOCK: u64 = 100;
+const SAID: u64 = 100_000;
+
+/// Seeds to run: as many as `cases`, or fewer where the time is over.
+#[derive(Clone, Copy)]
+pub struct Span {
+    pub from: u64,
+    pub cases: u64,
+    pub time: Option<Duration>,
+}
+
+/// What the threads share.
+struct Shared {
+    span: Span,
+    start: Instant,
+    next: AtomicU64,
+    stop: AtomicBool,
+}
+
+impl Shared {
+    fn is_over(&self) -> bool {
+        let late = self.span.time.is_some_and(|time| self.start.elapsed() >= time);
+        late || self.stop.load(Ordering::Relaxed)
+    }
+
+    /// The numbers of the next block of cases, if any are left.
+    fn block(&self) -> Option<std::ops::Range<u64>> {
+        let first = self.next.fetch_add(BLOCK, Ordering::Relaxed);
+        if first >= self.span.cases || self.is_over() {
+            return None;
+        }
+        if self.span.cases == u64::MAX && first > 0 && first.is_multiple_of(SAID) {
+            println!("{first} cases, no difference");
+        }
+        Some(first..self.span.cases.min(first + BLOCK))
+    }
+}
+
+/// Runs a thread with room for the deepest calls.
+fn spawn<T: Send + 'static>(work: impl FnOnce() -> Result<T, String> + Send + 'static) -> Result<JoinHandle<Result<T, String>>, String> {
+    Builder::new().stack_size(STACK).spawn(work).map_err(|why| why.to_string())
+}
+
+fn joined<T>(thread: JoinHandle<Result<T, String>>) -> Result<T, String> {
+    thread.join().map_err(|_| "a thread ended early".to_string())?
+}
+
+/// The case of one seed, in both.
+fn one(seed: u64, tally: &mut Tally) -> Result<(), String> {
+    let run = catch_unwind(AssertUnwindSafe(|| {
+        let made = made(seed);
+        let told = compare(&made.case);
+        (made, told)
+    }));
+    let (made, told) = run.map_err(|_| format!("seed {seed}: a panic"))?;
+    let name = OPERATIONS[made.case.operation()].name;
+    match told {
+        Ok(outcome) => {
+            tally.add(&made.case, &made.labels, &outcome);
+            Ok(())
+        }
+        Err(why) => Err(format!("DIFFERENCE in {name}, seed {seed}\n{:?}\n{why}", made.case)),
+    }
+}
+
+fn blocks(shared: &Shared) -> Result<Tally, String> {
+    let mut tally = Tally::default();
+    while let Some(block) = shared.block() {
+        for number in block {
+            if let Err(why) = one(shared.span.from.wrapping_add(number), &mut tally) {
+                shared.stop.store(true, Ordering::Relaxed);
+                return Err(why);
+            }
+        }
+    }
+    Ok(tally)
+}
+
+/// The cases of a span of seeds.
+pub fn seeds(span: Span) -> Result<Tally, String> {
+    let shared = Arc::new(Shared { span, start: Instant::now(), next: AtomicU64::new(0), stop: AtomicBool::new(false) });
+    let mut threads = Vec::new();
+    for _ in 0..THREADS {
+        let shared = Arc::clone(&shared);
+        threads.push(spawn(move || blocks(&shared))?);
+    }
+    let mut tally = Tally::default();
+    let told: Vec<_> = threads.into_iter().map(joined).collect();
+    for part in told {
+        tally.merge(part?);
+    }
+    Ok(tally)
+}
+
+/// The edges of document 01: how many there are, if each is answered as it says and both agree.
+pub fn edges() -> Result<usize, String> {
+    joined(spawn(|| {
+        let edges = edges::all();
+        for edge in &edges {
+            let told = compare(&edge.case).map_err(|why| format!("{}: {why}", edge.name))?;
+            if (told.number, told.at) != (edge.number, edge.at) {
+                return Err(format!("{}: {} at {}", edge.name, told.number, told.at));
+            }
+        }
+        Ok(edges.len())
+    })?)
+}
+
+/// Prints one case and what both make of it.
+pub fn show(seed: u64) -> Result<(), String> {
+    joined(spawn(move || {
+        let made = made(seed);
+        println!("{:?}\n{:?}", made.labels, made.case);
+        let told = compare(&made.case)?;
+        println!("both: {told}");
+        Ok(())
+    })?)
+}
