@@ -6,12 +6,15 @@ ghost use Rattle.simplify.specs.File.{termsRead};
 ghost use Rattle.simplify.specs.Told.{TermLineTold, TermsTold, InputTold};
 use term::check::MOST_WORDS;
 use term::lent::put;
+use text::book_text::MOST_RULES;
 use text::key::Key;
 use text::key::read_key;
 use text::key::read_number_line;
 use text::line::Line;
 use text::line::read_line;
 use text::number::Number;
+use text::rule_text::LINES;
+use text::rule_text::RULE_LINE;
 use text::rule_text::Rules;
 use text::rule_text::read_rules;
 use text::term_text::MOST_BYTES;
@@ -67,13 +70,14 @@ pub fn read_input(text: &[u8], book: &mut [u32], words: &mut [u32]) -> Input
     let Key::After(count_at) = read_key(text, 0, b"book=1\n") else {
         return Input::Bad(1);
     };
-    let Number::Read(count, rules_at) = read_number_line(text, count_at, b"rules=", 64) else {
+    let Number::Read(count, rules_at) = read_number_line(text, count_at, b"rules=", MOST_RULES)
+    else {
         return Input::Bad(2);
     };
     match read_rules(text, rules_at, count as usize, book) {
         Rules::Words(n, at) => {
             put(book, 0, count);
-            match judge_terms(text, at, 4 * count as usize + 3, words) {
+            match judge_terms(text, at, LINES * count as usize + RULE_LINE, words) {
                 Judged::Good => Input::Words(n + 1, at),
                 Judged::Bad(line) => Input::Bad(line),
             }

@@ -11,12 +11,10 @@ use first::first_block;
 use libc::STDIN_FILENO;
 use libc::STDOUT_FILENO;
 use next::next_block;
+use text::book_text::BOOK;
 
 // One byte more than a file may have, so that a longer one is seen.
 const ROOM: usize = 65537;
-
-// The words of 64 rules with sides of 64 words, and their number.
-const BOOK: usize = 8385;
 
 // A tree has at most so many words.
 const TREE: usize = 16384;

@@ -8,6 +8,8 @@ use crate::key::read_key;
 use crate::key::read_number_line;
 use crate::lent::put_words;
 use crate::number::Number;
+use crate::rule_text::LINES;
+use crate::rule_text::RULE_LINE;
 use crate::rule_text::Rules;
 use crate::rule_text::read_rules;
 use crate::term_text::MOST_BYTES;
@@ -16,6 +18,11 @@ use term::answer::Answer;
 use term::check::Checked;
 use term::lent::clear;
 use term::lent::put;
+
+// A book has at most so many rules, and so many words: the number of rules, and 64 rules with sides of 64 words.
+pub const MOST_RULES: u32 = 64;
+
+pub const BOOK: usize = 8385;
 
 // Gives words that may be a book: into a cleared slice, where they are one and there is room.
 fn give_book(words: &[u32], out: &mut [u32]) -> Answer
@@ -47,13 +54,14 @@ fn read_book_in(text: &[u8], work: &mut [u32], out: &mut [u32]) -> Answer
     let Key::After(count_at) = read_key(text, 0, b"book=1\n") else {
         return Answer::BadText(1);
     };
-    let Number::Read(count, rules_at) = read_number_line(text, count_at, b"rules=", 64) else {
+    let Number::Read(count, rules_at) = read_number_line(text, count_at, b"rules=", MOST_RULES)
+    else {
         return Answer::BadText(2);
     };
     match read_rules(text, rules_at, count as usize, work) {
         Rules::Words(n, next) => {
             if next < text.len() {
-                return Answer::BadText(4 * count as usize + 3);
+                return Answer::BadText(LINES * count as usize + RULE_LINE);
             }
             put(work, 0, count);
             give_book(&work[..n + 1], out)
@@ -68,6 +76,6 @@ pub fn read_book(text: &[u8], out: &mut [u32]) -> Answer
         × (now (out .exit) ≡ readBookWords (length (now (out .entry))) (bookSaid (now (text .entry)))) ⌝ }
 {
     clear(out);
-    let mut work = [0u32; 8385];
+    let mut work = [0u32; BOOK];
     read_book_in(text, &mut work, out)
 }

@@ -17,6 +17,9 @@ const ZERO: u8 = 48;
 
 const NINE: u8 = 57;
 
+// Numbers are decimal.
+const BASE: u32 = 10;
+
 fn is_digit(b: u8) -> bool
     ensures { λ r. ⌜ r ≡ isDigit b ⌝ }
 {
@@ -38,7 +41,7 @@ fn read_digits(text: &[u8], at: usize, most: u32) -> Number
         if !is_digit(b) {
             return Number::Read(n, i);
         }
-        n = n * 10 + (b - ZERO) as u32;
+        n = n * BASE + (b - ZERO) as u32;
         if most < n {
             return Number::None;
         }
@@ -70,11 +73,11 @@ pub fn write_number(out: &mut [u8], at: usize, n: u32) -> usize
     requires { ⌜ at ≤ 4000000 ⌝ }
     ensures { λ r. ⌜ (r ≡ at + length (decimal n)) × (now (out .exit) ≡ sets (now (out .entry)) at (decimal n)) ⌝ }
 {
-    if n < 10 {
+    if n < BASE {
         put_byte(out, at, ZERO + n as u8);
         return at + 1;
     }
-    let last = write_number(out, at, n / 10);
-    put_byte(out, last, ZERO + (n % 10) as u8);
+    let last = write_number(out, at, n / BASE);
+    put_byte(out, last, ZERO + (n % BASE) as u8);
     last + 1
 }

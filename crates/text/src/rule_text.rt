@@ -10,6 +10,23 @@ use crate::line::Line;
 use crate::number::Number;
 use term::lent::put;
 
+// The last rule of a book has this number, and a rule has so many variables at most.
+const LAST_RULE: u32 = 63;
+
+const MOST_VARS: u32 = 16;
+
+// A rule has so many lines.
+pub const LINES: usize = 4;
+
+// The lines of the rule 0; two lines stand before them.
+pub const RULE_LINE: usize = 3;
+
+const VARS_LINE: usize = 4;
+
+const LEFT_LINE: usize = 5;
+
+const RIGHT_LINE: usize = 6;
+
 // So many words and the offset after their lines, or the first line that is not in form.
 pub enum Rules {
     Words(usize, usize),
@@ -27,14 +44,14 @@ fn read_vars(text: &[u8], at: usize, number: usize) -> Vars
     requires { ⌜ (at ≤ length (now text)) × (number ≤ 63) ⌝ }
     ensures { λ r. ⌜ VarsTold number (now (text .entry)) at r ⌝ }
 {
-    let Number::Read(k, vars_at) = read_number_line(text, at, b"rule=", 63) else {
-        return Vars::Bad(4 * number + 3);
+    let Number::Read(k, vars_at) = read_number_line(text, at, b"rule=", LAST_RULE) else {
+        return Vars::Bad(LINES * number + RULE_LINE);
     };
     if k as usize != number {
-        return Vars::Bad(4 * number + 3);
+        return Vars::Bad(LINES * number + RULE_LINE);
     }
-    let Number::Read(vars, next) = read_number_line(text, vars_at, b"vars=", 16) else {
-        return Vars::Bad(4 * number + 4);
+    let Number::Read(vars, next) = read_number_line(text, vars_at, b"vars=", MOST_VARS) else {
+        return Vars::Bad(LINES * number + VARS_LINE);
     };
     Vars::Read(vars, next)
 }
@@ -55,10 +72,10 @@ fn read_sides(text: &[u8], at: usize, number: usize, vars: u32, out: &mut [u32],
     ensures { λ r. ⌜ RulesTold (sidesRead number vars) 131 (now (text .entry)) at to (now (out .entry)) (now (out .exit)) r ⌝ }
 {
     let Line::Words(left, right_at) = read_side(text, at, b"left=", out, to + 3) else {
-        return Rules::Bad(4 * number + 5);
+        return Rules::Bad(LINES * number + LEFT_LINE);
     };
     let Line::Words(right, next) = read_side(text, right_at, b"right=", out, to + 3 + left) else {
-        return Rules::Bad(4 * number + 6);
+        return Rules::Bad(LINES * number + RIGHT_LINE);
     };
     put_header(out, to, vars, left, right);
     Rules::Words(3 + left + right, next)

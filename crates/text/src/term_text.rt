@@ -59,7 +59,7 @@ pub fn read_term(text: &[u8], out: &mut [u32]) -> Answer
         × (now (out .exit) ≡ readWords (length (now (out .entry))) (termSaid (now (text .entry)))) ⌝ }
 {
     clear(out);
-    let mut work = [0u32; 4096];
+    let mut work = [0u32; MOST_WORDS];
     read_term_in(text, &mut work, out)
 }
 

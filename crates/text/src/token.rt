@@ -27,6 +27,17 @@ pub enum Token {
 
 const DOT: u8 = 46;
 
+// The largest ids and counts of the table: of symbols, variables and pattern variables.
+const SYMBOL_ID: u32 = 1023;
+
+const SYMBOL_COUNT: u32 = 15;
+
+const VARIABLE_ID: u32 = 65535;
+
+const PATTERN_ID: u32 = 15;
+
+const PATTERN_COUNT: u32 = 4;
+
 // The word of this kind whose id and count stand at `at`, with a dot between them.
 fn read_dotted(text: &[u8], at: usize, kind: u32, ids: u32, counts: u32) -> Token
     requires { ⌜ (kind ≤ 3) × (ids ≤ 65535) × (counts ≤ 15) ⌝ }
@@ -51,7 +62,7 @@ fn read_dotted(text: &[u8], at: usize, kind: u32, ids: u32, counts: u32) -> Toke
 fn read_variable(text: &[u8], at: usize) -> Token
     ensures { λ r. ⌜ VariableTold (now (text .entry)) at r ⌝ }
 {
-    let Number::Read(i, next) = read_number(text, at, 65535) else {
+    let Number::Read(i, next) = read_number(text, at, VARIABLE_ID) else {
         return Token::None;
     };
     if i < 1 {
@@ -69,7 +80,7 @@ pub fn read_token(text: &[u8], at: usize) -> Token
     }
     let b = text[at];
     if b == b's' {
-        return read_dotted(text, at + 1, SYMBOL, 1023, 15);
+        return read_dotted(text, at + 1, SYMBOL, SYMBOL_ID, SYMBOL_COUNT);
     }
     if b == b'l' {
         return Token::Word(ABSTRACTION * KIND + COUNT, at + 1);
@@ -78,7 +89,7 @@ pub fn read_token(text: &[u8], at: usize) -> Token
         return read_variable(text, at + 1);
     }
     if b == b'm' {
-        return read_dotted(text, at + 1, PATTERN, 15, 4);
+        return read_dotted(text, at + 1, PATTERN, PATTERN_ID, PATTERN_COUNT);
     }
     Token::None
 }
