@@ -4,8 +4,8 @@ use mathlib.Core.List.{List, [], _∷_, _++_}
 use Prim.Native.Nat.{ℕ, _+_}
 use lib.ListN.{length}
 use Rattle.term.specs.declared.check.Checked.the-variants.{Good, Bad}
-use Rattle.term.specs.Word.{word, kind, count, ident, headOf, headWith}
-use Rattle.term.specs.Row.{words, width, kinds, nesting, read, firsts, others}
+use Rattle.term.specs.Word.{word, kind, rank, count, ident, headOf, headWith}
+use Rattle.term.specs.Row.{words, width, ranks, nesting, read, firsts, others}
 use Rattle.term.specs.Check.{check, scan, settle, mayStand}
 use Rattle.term.specs.Renumber.{position, listed, goodList}
 use Rattle.book.specs.Rule.{idsOf, leftShape, rootSymbol, rightShape, counted, oneCount, allOccur, noOther, goodLeft, goodRight, goodRule}
@@ -67,7 +67,7 @@ BadRights =
     × (checkBook (rights (m 0 1 ∷ s 7 0 ∷ [])) ≡ Bad 0)
 
 computed : Accepted × BadBooks × BadLefts × BadRights
-unfolding s l v m rule lefts rights word kind count ident headOf headWith words width kinds nesting read firsts others check scan settle mayStand position listed goodList idsOf leftShape rootSymbol rightShape counted oneCount allOccur noOther goodLeft goodRight goodRule ruleOf judge checkBook
+unfolding s l v m rule lefts rights word kind rank count ident headOf headWith words width ranks nesting read firsts others check scan settle mayStand position listed goodList idsOf leftShape rootSymbol rightShape counted oneCount allOccur noOther goodLeft goodRight goodRule ruleOf judge checkBook
 computed = (
   (refl, refl, refl, refl, refl),
   (refl, refl, refl, refl, refl, refl, refl),

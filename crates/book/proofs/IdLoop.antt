@@ -10,22 +10,22 @@ use lib.Dec.{leb}
 use lib.ListN.{length, length-append, take, drop, getD, set, replicate, length-set, length-replicate, take-append-drop, drop-of-length-le}
 use lib.Seq.{drop-cons, take-suc-set, drop-set-lt, length-take-le, take-at}
 use borrow.Author.Tests.{le-leb, lt-leb, leb-true}
-use Rattle.term.specs.Word.{Head, symbol, abstraction, variable, pattern, pick, kind, identOf, headOf}
-use Rattle.term.specs.Check.{kindOr}
-use Rattle.term.proofs.Laws.{never, variable-word, kind-variable}
+use Rattle.term.specs.Word.{Head, symbol, abstraction, variable, pattern, pick, identOf, headOf}
+use Rattle.term.specs.Check.{rankOr}
+use Rattle.term.proofs.Laws.{never, variable-word, rank-variable}
 use Rattle.book.specs.Rule.{idBefore, listFor}
-use Rattle.book.specs.Ids.{idBeforeO, variableIds, listIn, isList, fourOf}
+use Rattle.book.specs.told.Ids.{idBeforeO, variableIds, listIn, isList, fourOf}
 
 abbrev pub idsThen : List ℕ → Option (List ℕ) → Option (List ℕ)
 idsThen xs none = none
 idsThen xs (some ys) = some (xs ++ ys)
 
 -- no id where another head stands
-other-head : (o : Option Head) (r : Option (List ℕ)) → (kindOr 4 o ≡ 2 → ⊥) → idBeforeO o r ≡ none
+other-head : (o : Option Head) (r : Option (List ℕ)) → (rankOr 4 o ≡ 2 → ⊥) → idBeforeO o r ≡ none
 other-head none r n = refl
 other-head (some (symbol i c)) r n = refl
 other-head (some abstraction) r n = refl
-other-head (some (variable i)) r n = absurd (n (kind-variable i))
+other-head (some (variable i)) r n = absurd (n (rank-variable i))
 other-head (some (pattern i c)) r n = refl
 
 then-more : (xs : List ℕ) (i : ℕ) (o : Option (List ℕ)) → idsThen xs (idBefore (variable i) o) ≡ idsThen (xs ++ (i ∷ [])) o
@@ -93,7 +93,7 @@ module _ (k : ℕ) (ws : List ℕ) (few : k ≤ 4) where
     unfolding variableIds
     ids-short h l = s .2 ∙ rw (left-suc j h, drop-of-length-le ws l)
 
-    pub ids-other : j < k → j < length ws → (kindOr 4 (headOf (getD ws j 0)) ≡ 2 → ⊥) → listIn k ws ≡ none
+    pub ids-other : j < k → j < length ws → (rankOr 4 (headOf (getD ws j 0)) ≡ 2 → ⊥) → listIn k ws ≡ none
     unfolding variableIds
     ids-other h l n = s .2 ∙ rw (left-suc j h, drop-cons ws j 0 l, other-head (headOf (getD ws j 0)) (variableIds (k - (j + 1)) (drop (suc j) ws)) n)
 
@@ -106,7 +106,7 @@ module _ (k : ℕ) (ws : List ℕ) (few : k ≤ 4) where
         tail [] = []
         tail (x ∷ xs) = xs
 
-    pub ids-more : j < k → j < length ws → kindOr 4 (headOf (getD ws j 0)) ≡ 2 → Sofar (j + 1) (set ids j (identOf (getD ws j 0)))
+    pub ids-more : j < k → j < length ws → rankOr 4 (headOf (getD ws j 0)) ≡ 2 → Sofar (j + 1) (set ids j (identOf (getD ws j 0)))
     unfolding variableIds
     ids-more h l e = (
       simp length-set (s .0),

@@ -16,3 +16,5 @@ pub use Rattle.book.proofs.Rules.{SidesAre, sides-rule, sides-none, rul
 pub use Rattle.book.proofs.Above.{words-rule, rule-words, judge-end, judge-over, judge-next, check-empty, check-counted}
 -- The place of a bad book is at most 64.
 pub use Rattle.book.proofs.FirstBad.{BadWithin, bad-within}
+-- A book is accepted just where it is good, and else its answer is a refusal.
+pub use Rattle.book.proofs.Accepting.{good-accepted, bad-refused, accepted-good, refusal-number, check-book-is}

@@ -10,4 +10,5 @@ mod Rules
 mod Above
 mod FirstBad
 mod Computed
+mod Accepting
 pub mod Laws

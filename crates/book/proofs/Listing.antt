@@ -13,7 +13,7 @@ use Rattle.term.specs.Row.{Row, nothing, node, width, words, Formed}
 use Rattle.term.specs.Renumber.{goodList}
 use Rattle.term.proofs.Laws.{never, width-nothing, width-node, formed-node, good-true}
 use Rattle.book.specs.Rule.{idBefore, idsOf, listFor}
-use Rattle.book.specs.Ids.{variableIds, listIn}
+use Rattle.book.specs.told.Ids.{variableIds, listIn}
 use Rattle.book.proofs.SideLaws.{ids-row, ids-length}
 
 -- an id for each tree

@@ -10,7 +10,7 @@ use Rattle.term.specs.Word.{Head, symbol, abstraction, variable, pattern, pick,
 use Rattle.term.specs.Row.{Row, nothing, node, words, Formed}
 use Rattle.term.proofs.Laws.{words-nothing, words-node, formed-node, kind-word, count-word, ident-word, kind-symbol, kind-abstraction, kind-variable, kind-pattern, count-pattern, ident-pattern}
 use Rattle.book.specs.Rule.{counted, oneCount, noOther}
-use Rattle.book.specs.Occurs.{isPattern, occursIn, belowHead, belowVars, countsHead, countsAs}
+use Rattle.book.specs.told.Occurs.{isPattern, occursIn, belowHead, belowVars, countsHead, countsAs}
 
 -- ---- the clauses
 pub occurs-nothing : (x : ℕ) → occursIn x nothing ≡ false

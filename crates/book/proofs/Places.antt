@@ -19,7 +19,7 @@ use Rattle.book.specs.declared.book.Found.{Found}
 use Rattle.book.specs.declared.book.Found.the-variants as found
 use Rattle.book.specs.Rule.{goodRule}
 use Rattle.book.specs.Book.{Rule, ruleOf, judged, goodNext, afterNext, judge, checkBook}
-use Rattle.book.specs.Found.{sidesOf, placed, endNext, seek, sidesAt}
+use Rattle.book.specs.told.Found.{sidesOf, placed, endNext, seek, sidesAt}
 
 -- ---- one rule
 rule-short : (xs : List ℕ) → length xs < 3 → ruleOf xs ≡ none

@@ -19,8 +19,8 @@ use Rattle.book.specs.declared.book.Found.{Found}
 use Rattle.book.specs.declared.book.Found.the-variants as found
 use Rattle.book.specs.Rule.{sideLimits, isGood, rootSymbol, leftShape, rightShape, shaped, counted, oneCount, allOccur, noOther, goodLeft, goodRight, goodRule}
 use Rattle.book.specs.Book.{Rule, ruleOf, judged, goodNext, afterNext, judge, checkBook, nextO, nthRule, ruleAt}
-use Rattle.book.specs.Found.{sidesOf, placed, endNext, seek, sidesAt}
-use Rattle.book.specs.Occurs.{occursIn, belowVars, countsAs}
+use Rattle.book.specs.told.Found.{sidesOf, placed, endNext, seek, sidesAt}
+use Rattle.book.specs.told.Occurs.{occursIn, belowVars, countsAs}
 use Rattle.book.proofs.Sides.{side-tree, tree-read, good-is}
 use Rattle.book.proofs.Places.{Lying, LyingO, lying, Placed, lies-placed, seek-nothing}
 use Rattle.book.proofs.Occurrences.{below-is, counts-is, counted-occurs}

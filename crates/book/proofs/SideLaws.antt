@@ -10,21 +10,21 @@ use lib.Dec.{leb, eqb}
 use lib.ListN.{length, drop, getD, length-append, length-drop}
 use lib.Seq.{drop-cons, drop-drop, drop-at}
 use borrow.Author.Tests.{eq-eqb, ne-eqb, le-leb}
-use Rattle.term.specs.declared.renumber.Step.{Step}
-use Rattle.term.specs.declared.renumber.Step.the-variants.{Done, Stuck}
+use Rattle.term.specs.declared.renumber.Passed.{Passed}
+use Rattle.term.specs.declared.renumber.Passed.the-variants.{Done, Stuck}
 use Rattle.term.specs.Word
 use Rattle.term.specs.Word.{Head, symbol, abstraction, variable, pattern, pick, kind, kindOf, countOf, identOf, word, InTable, headOf}
 use Rattle.term.specs.Row.{Row, nothing, node, width, words, nesting, Formed}
 use Rattle.term.specs.Renumber.{inside}
-use Rattle.term.specs.Walk.{insideWord}
+use Rattle.term.specs.told.Walk.{insideWord}
 use Rattle.term.proofs.Laws.{never, words-node, words-nothing, width-node, width-nothing, nesting-node, nesting-nothing, FormedNode, formed-node, node-formed, formed-nothing, count-word, kind-word, ident-word, head-word, inside-is, kind-symbol, kind-abstraction, kind-variable, kind-pattern, count-variable, count-pattern, ident-variable, inside-symbol, inside-abstraction, inside-pattern, pattern-few}
 use Rattle.book.specs.declared.shape.Side.{Side}
 use Rattle.book.specs.declared.shape.Side.the-variants.{Left, Right}
 use Rattle.book.specs.declared.shape.Front.{Front}
 use Rattle.book.specs.declared.shape.Front.the-variants.{Past, Inside, Bad}
 use Rattle.book.specs.Rule.{idBefore, idsOf, listFor, leftShape, rightShape}
-use Rattle.book.specs.Ids.{idBeforeO, variableIds, listIn}
-use Rattle.book.specs.Shape.{shapeOf, frontOf, SideStands, SideTold}
+use Rattle.book.specs.told.Ids.{idBeforeO, variableIds, listIn}
+use Rattle.book.specs.told.Shape.{shapeOf, frontOf, SideStands, SideTold}
 
 -- ---- the list in words is the list in the row
 none-width : (f : Row) → width f ≡ 0 → f ≡ nothing
@@ -179,7 +179,7 @@ module _ (side : Side) (d levels count : ℕ) (ws : List ℕ) (at : ℕ) where
             let n : shapeOf side d (node (x .head) (x .children) nothing) ≡ false = picked-stuck _ _ (told (node (x .head) (x .children) nothing) (words (x .right) ++ after) (x .alone)) in
             rw (x .is, shape-split side d (x .head) (x .children) (x .right), n)
 
-    pub side-more : (a : ℕ) → SideTold side d levels 1 ws at (Done a) → (r : Step) → SideTold side d levels (count - 1) ws a r → SideTold side d levels count ws at r
+    pub side-more : (a : ℕ) → SideTold side d levels 1 ws at (Done a) → (r : Passed) → SideTold side d levels (count - 1) ws a r → SideTold side d levels count ws at r
     unfolding SideTold
     side-more a told r rest f after s = shown (first levels count ws at z f after s)
       where
@@ -286,7 +286,7 @@ module _ (side : Side) (d levels : ℕ) (ws : List ℕ) (at : ℕ) (l : at < len
           go : FrontIs side d (x .head) (x .children) Bad → Stuck ≡ pick (shapeOf side d f) (Done (at + length (words f))) Stuck
           go (stops a) = rw (x .is, a)
 
-  pub tree-inside : frontOf side d (getD ws at 0) (drop (at + 1) ws) ≡ Inside → (r : Step)
+  pub tree-inside : frontOf side d (getD ws at 0) (drop (at + 1) ws) ≡ Inside → (r : Passed)
       → SideTold side (insideWord (getD ws at 0) d) (levels - 1) (countOf (getD ws at 0)) ws (at + 1) r → SideTold side d levels 1 ws at r
   unfolding SideTold
   tree-inside e r told f after s = shown (lone levels ws at l f after s)

@@ -10,7 +10,7 @@ use lib.ListN.{length, drop, getD}
 use borrow.Author.Tests.{le-leb, lt-leb, lt-ltb}
 use Rattle.term.specs.declared.check.Checked.{Checked}
 use Rattle.term.specs.declared.check.Checked.the-variants.{Good, Bad}
-use Rattle.term.specs.declared.renumber.Step.the-variants.{Done, Stuck}
+use Rattle.term.specs.declared.renumber.Passed.the-variants.{Done, Stuck}
 use Rattle.term.specs.Word.{Head, symbol, abstraction, variable, pattern, pick, kind, word, InTable, kindOf}
 use Rattle.term.specs.Row.{Row, nothing, node, width, words, nesting, Formed, Got, read}
 use Rattle.term.specs.Check.{Limits, IsTree, check}
@@ -18,7 +18,7 @@ use Rattle.term.proofs.Laws.{never, and-left, and-right, good-tree, tree-good, 
 use Rattle.book.specs.declared.shape.Side.{Side}
 use Rattle.book.specs.declared.shape.Side.the-variants.{Left, Right}
 use Rattle.book.specs.Rule.{sideLimits, isGood, rootSymbol, leftShape, rightShape, shaped, noOther, allOccur, oneCount, goodLeft, goodRight, goodRule}
-use Rattle.book.specs.Shape.{shapeOf, SideTold}
+use Rattle.book.specs.told.Shape.{shapeOf, SideTold}
 use Rattle.book.proofs.Clauses.{root-symbol, root-abstraction, root-variable, root-pattern}
 
 -- what an answer says of the shape

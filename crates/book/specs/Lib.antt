@@ -1,7 +1,5 @@
 pub mod Rule
-pub mod Ids
 pub mod Book
-pub mod Shape
-pub mod Found
-pub mod Occurs
+pub mod Accept
 pub mod Marked
+pub mod told

@@ -8,14 +8,14 @@ use lib.ListN.{length}
 use lib.Dec.{leb, ltb, eqb}
 use Rattle.term.specs.declared.check.Checked.{Checked}
 use Rattle.term.specs.declared.check.Checked.the-variants.{Good, Bad}
-use Rattle.term.specs.Word.{Head, symbol, abstraction, variable, pattern, pick, kindOf, countOf, identOf}
+use Rattle.term.specs.Word.{Head, symbol, abstraction, variable, pattern, pick, sideRank, kindOf, countOf, identOf}
 use Rattle.term.specs.Row.{Row, nothing, node, Got, read}
 use Rattle.term.specs.Check.{Limits, check}
 use Rattle.term.specs.Renumber.{goodList}
 
--- "Each side has 1 to 64 words and nesting at most 16", of any kinds
+-- "Each side has 1 to 64 words and nesting at most 16", of any rank
 abbrev pub sideLimits : Limits
-sideLimits = record { kinds = 3; length = 64; nesting = 16 }
+sideLimits = record { ranks = sideRank; length = 64; nesting = 16 }
 
 abbrev pub isGood : Checked → Bool
 isGood Good = true

@@ -2,12 +2,10 @@
 ghost use mathlib.Core.Path.{_≡_};
 ghost use lib.ListN.{drop};
 ghost use Rattle.book.specs.Book.{ruleOf, checkBook};
-ghost use Rattle.book.specs.Found.{placed, sidesAt};
+ghost use Rattle.book.specs.told.Found.{placed, sidesAt};
+use crate::limits::MOST_RULES_LONG;
 use crate::rule::good_rule;
 use term::check::Checked;
-
-// A book has at most so many rules.
-pub const MOST_RULES: usize = 64;
 
 // vars, left length and right length stand before a rule's sides.
 const HEADER: usize = 3;
@@ -59,8 +57,8 @@ pub fn check_book(words: &[u32]) -> Checked
         return Checked::Bad(0);
     }
     let rules = words[0] as usize;
-    if MOST_RULES < rules {
-        return Checked::Bad(MOST_RULES);
+    if MOST_RULES_LONG < rules {
+        return Checked::Bad(MOST_RULES_LONG);
     }
     let mut at: usize = 1;
     let mut number: usize = 0;

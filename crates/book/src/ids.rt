@@ -2,13 +2,13 @@
 ghost use mathlib.Core.Path.{_≡_};
 ghost use mathlib.Core.Bool.{false};
 ghost use mathlib.Core.Option.{none};
-ghost use Rattle.book.specs.Ids.{listIn, isList, fourOf};
+ghost use Rattle.book.specs.told.Ids.{listIn, isList, fourOf};
 ghost use Rattle.book.specs.Rule.{listFor};
 use term::list::MOST_IDS;
 use term::list::good_list;
-use term::word::COUNT;
-use term::word::VARIABLE;
-use term::word::table_kind;
+use term::word::VARIABLE_RANK;
+use term::word::id_of;
+use term::word::table_rank;
 
 // The ids and then zeros, and whether all that were asked for are there; zeros where they are not.
 pub struct Ids {
@@ -39,10 +39,10 @@ pub fn ids_of(words: &[u32], k: usize) -> Ids
             return no_ids();
         }
         let w = words[j];
-        if table_kind(w) != VARIABLE {
+        if table_rank(w) != VARIABLE_RANK {
             return no_ids();
         }
-        ids[j] = w % COUNT;
+        ids[j] = id_of(w);
         j += 1;
     }
     Ids { ids, all: true }

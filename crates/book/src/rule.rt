@@ -7,7 +7,11 @@ ghost use Rattle.term.specs.Word.{kindOf};
 ghost use Rattle.term.specs.Row.{read};
 ghost use Rattle.term.specs.Check.{check};
 ghost use Rattle.book.specs.Rule.{sideLimits, isGood, shaped, goodLeft, goodRight, goodRule};
-ghost use Rattle.book.specs.Shape.{shapeOf};
+ghost use Rattle.book.specs.told.Shape.{shapeOf};
+use crate::limits::MOST_SIDE;
+use crate::limits::MOST_VARS;
+use crate::limits::SIDE_LEVELS;
+use crate::limits::SIDE_NESTING;
 use crate::shape::Side;
 use crate::shape::side_row;
 use crate::variables::all_occur;
@@ -15,31 +19,21 @@ use crate::variables::no_other;
 use crate::variables::one_count;
 use term::check::Checked;
 use term::check::check_tree;
-use term::renumber::Step;
-use term::word::KIND;
-use term::word::PATTERN;
+use term::renumber::Passed;
+use term::word::SIDE_RANK;
 use term::word::SYMBOL;
-
-// A side has at most so many words, and nests so deep.
-pub const MOST_SIDE: usize = 64;
-
-pub const SIDE_NESTING: usize = 16;
-
-const LEVELS: u32 = 16;
-
-// A rule has at most so many variables.
-pub const MOST_VARS: u32 = 16;
+use term::word::kind_of;
 
 // Whether the words are one tree within the limits, of the shape of the side.
 fn good_side(side: Side, words: &[u32]) -> bool
     ensures { λ r. ⌜ r ≡ isGood (check sideLimits (now (words .entry))) && shaped (shapeOf side 0) (read 1 (now (words .entry))) ⌝ }
 {
-    let Checked::Good = check_tree(words, PATTERN, MOST_SIDE, SIDE_NESTING) else {
+    let Checked::Good = check_tree(words, SIDE_RANK, MOST_SIDE, SIDE_NESTING) else {
         return false;
     };
-    match side_row(side, 0, LEVELS, 1, words, 0) {
-        Step::Done(_) => true,
-        Step::Stuck => false,
+    match side_row(side, 0, SIDE_LEVELS, 1, words, 0) {
+        Passed::Done(_) => true,
+        Passed::Stuck => false,
     }
 }
 
@@ -49,7 +43,7 @@ fn starts_with_symbol(words: &[u32]) -> bool
     if words.len() == 0 {
         return false;
     }
-    words[0] / KIND == SYMBOL
+    kind_of(words[0]) == SYMBOL
 }
 
 fn good_left(vars: u32, left: &[u32]) -> bool

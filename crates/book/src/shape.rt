@@ -2,15 +2,15 @@
 ghost use mathlib.Core.Path.{_≡_};
 ghost use Prim.Native.Nat.{_+_, _≤_, _<_};
 ghost use lib.ListN.{length};
-ghost use Rattle.book.specs.Shape.{frontOf, SideTold};
+ghost use Rattle.book.specs.told.Shape.{frontOf, SideTold};
 use crate::ids::list_for;
-use term::renumber::Step;
+use term::renumber::Passed;
 use term::renumber::inside_word;
-use term::word::COUNT;
-use term::word::COUNTS;
-use term::word::KIND;
 use term::word::PATTERN;
 use term::word::VARIABLE;
+use term::word::count_of;
+use term::word::id_of;
+use term::word::kind_of;
 
 pub enum Side {
     Left,
@@ -27,11 +27,12 @@ pub enum Front {
 fn left_front(d: u32, w: u32, words: &[u32]) -> Front
     ensures { λ r. ⌜ r ≡ frontOf Side.Left d w (now (words .entry)) ⌝ }
 {
-    if w / KIND == VARIABLE {
+    let kind = kind_of(w);
+    if kind == VARIABLE {
         return Front::Bad;
     }
-    if w / KIND == PATTERN {
-        let k = (w / COUNT % COUNTS) as usize;
+    if kind == PATTERN {
+        let k = count_of(w) as usize;
         if list_for(words, k, d) {
             return Front::Past(1 + k);
         }
@@ -43,8 +44,8 @@ fn left_front(d: u32, w: u32, words: &[u32]) -> Front
 fn right_front(d: u32, w: u32, words: &[u32]) -> Front
     ensures { λ r. ⌜ r ≡ frontOf Side.Right d w (now (words .entry)) ⌝ }
 {
-    if w / KIND == VARIABLE {
-        if w % COUNT <= d {
+    if kind_of(w) == VARIABLE {
+        if id_of(w) <= d {
             return Front::Past(1);
         }
         return Front::Bad;
@@ -62,7 +63,7 @@ fn front_of(side: Side, d: u32, w: u32, words: &[u32]) -> Front
 }
 
 // Whether `count` trees from `at` on have the shape of the side, under d abstractions. A call goes one level down, and the loop along the row.
-pub fn side_row(side: Side, d: u32, levels: u32, count: u32, words: &[u32], at: usize) -> Step
+pub fn side_row(side: Side, d: u32, levels: u32, count: u32, words: &[u32], at: usize) -> Passed
     requires { ⌜ d + levels ≤ 64 ⌝ }
     ensures { λ r. ⌜ SideTold side d levels count (now (words .entry)) at r ⌝ }
 {
@@ -70,10 +71,10 @@ pub fn side_row(side: Side, d: u32, levels: u32, count: u32, words: &[u32], at: 
     let mut left = count;
     while left != 0 {
         if levels == 0 {
-            return Step::Stuck;
+            return Passed::Stuck;
         }
         if words.len() <= a {
-            return Step::Stuck;
+            return Passed::Stuck;
         }
         let w = words[a];
         let next = a + 1;
@@ -86,22 +87,22 @@ pub fn side_row(side: Side, d: u32, levels: u32, count: u32, words: &[u32], at: 
                 side,
                 inside_word(w, d),
                 levels - 1,
-                w / COUNT % COUNTS,
+                count_of(w),
                 words,
                 next,
             ) {
-                Step::Done(b) => {
+                Passed::Done(b) => {
                     a = b;
                     left = left - 1;
                 }
-                Step::Stuck => {
-                    return Step::Stuck;
+                Passed::Stuck => {
+                    return Passed::Stuck;
                 }
             },
             Front::Bad => {
-                return Step::Stuck;
+                return Passed::Stuck;
             }
         }
     }
-    Step::Done(a)
+    Passed::Done(a)
 }

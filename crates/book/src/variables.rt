@@ -5,21 +5,21 @@ ghost use lib.Dec.{eqb, ltb};
 ghost use Prim.Native.Nat.{suc};
 ghost use Rattle.term.specs.Word.{pick, kindOf, countOf, identOf};
 ghost use Rattle.book.specs.Rule.{counted, oneCount, allOccur, noOther};
-use term::word::COUNT;
-use term::word::COUNTS;
-use term::word::KIND;
 use term::word::PATTERN;
+use term::word::count_of;
+use term::word::id_of;
+use term::word::kind_of;
 
 // One more than a count is never this: it says that a variable does not occur.
-const ABSENT: u32 = 0;
+const NO_COUNT: u32 = 0;
 
 fn is_variable(i: u32, w: u32) -> bool
     ensures { λ r. ⌜ r ≡ eqb (kindOf w) 3 && eqb (identOf w) i ⌝ }
 {
-    if w / KIND != PATTERN {
+    if kind_of(w) != PATTERN {
         return false;
     }
-    w % COUNT == i
+    id_of(w) == i
 }
 
 // One more than the count of a variable's first occurrence.
@@ -30,21 +30,21 @@ pub fn counted_in(i: u32, words: &[u32]) -> u32
     while at < words.len() {
         let w = words[at];
         if is_variable(i, w) {
-            return w / COUNT % COUNTS + 1;
+            return count_of(w) + 1;
         }
         at += 1;
     }
-    ABSENT
+    NO_COUNT
 }
 
 // Whether a word, where it is a variable, has the count that its first occurrence on the left has.
 fn has_count(left: &[u32], w: u32) -> bool
     ensures { λ r. ⌜ r ≡ pick (eqb (kindOf w) 3) (eqb (counted (identOf w) (now (left .entry))) (suc (countOf w))) true ⌝ }
 {
-    if w / KIND != PATTERN {
+    if kind_of(w) != PATTERN {
         return true;
     }
-    counted_in(w % COUNT, left) == w / COUNT % COUNTS + 1
+    counted_in(id_of(w), left) == count_of(w) + 1
 }
 
 // Whether each variable has the count that its first occurrence on the left has; one that is not there has none.
@@ -68,7 +68,7 @@ pub fn all_occur(vars: u32, left: &[u32]) -> bool
     let mut x = vars;
     while x != 0 {
         x -= 1;
-        if counted_in(x, left) == ABSENT {
+        if counted_in(x, left) == NO_COUNT {
             return false;
         }
     }
@@ -79,10 +79,10 @@ pub fn all_occur(vars: u32, left: &[u32]) -> bool
 fn is_below(vars: u32, w: u32) -> bool
     ensures { λ r. ⌜ r ≡ pick (eqb (kindOf w) 3) (ltb (identOf w) vars) true ⌝ }
 {
-    if w / KIND != PATTERN {
+    if kind_of(w) != PATTERN {
         return true;
     }
-    w % COUNT < vars
+    id_of(w) < vars
 }
 
 // Whether no variable from `vars` on occurs.

@@ -10,64 +10,66 @@ use lib.Dec.{leb, eqb}
 use lib.ListN.{length, drop, replicate, length-replicate, length-append, length-drop}
 use lib.Seq.{sets, sets-eq}
 use borrow.Author.Tests.{le-leb, lt-leb, leb-true, eqb-true, eq-eqb}
-use Rattle.term.specs.declared.check.Checked.{Checked}
-use Rattle.term.specs.declared.check.Checked.the-variants.{Good, Bad}
-use Rattle.term.specs.declared.part.Written.{Written}
-use Rattle.term.specs.declared.part.Written.the-variants.{Words, NoBody, Over, Short}
-use Rattle.term.specs.declared.renumber.Step.{Step}
-use Rattle.term.specs.declared.renumber.Step.the-variants.{Done, Stuck}
+use Rattle.term.specs.declared.part.Written.the-variants.{Words, NoBody, Short}
+use Rattle.term.specs.declared.renumber.Passed.the-variants.{Done, Stuck}
 use Rattle.term.specs.Word.{pick}
-use Rattle.term.specs.Row.{Row, width, words, kinds, nesting, Formed, Got, read}
-use Rattle.term.specs.Check.{check, termLimits, IsTerm}
-use Rattle.term.specs.Renumber.{GoodList, goodList, idBody, renumber, named, toTerm, closed, toBody, idTermWithin, idsWithin}
-use Rattle.term.specs.Part.{partEnd, ofTerm, part, bodyO, bodyOf, isSome, hasBody, sameWords, sameO, sameBody, written, padded, bodyAnswer, bodyWords, whole, givenBody, termAnswer, termWords}
-use Rattle.term.specs.Walk.{Stands, RowTold, SameTold}
+use Rattle.term.specs.Row.{Row, width, words, ranks, nesting, Formed, Got, read}
+use Rattle.term.specs.Check.{IsTerm}
+use Rattle.term.specs.Renumber.{GoodList, goodList, idBody, renumber, closed, toBody}
+use Rattle.term.specs.Part.{partEnd, ofTerm, part, bodyO, bodyOf, isSome, hasBody, sameWords, sameO, sameBody, written, padded, bodyAnswer, bodyWords}
+use Rattle.term.specs.told.Walk.{Stands, RowTold, SameTold}
 use Rattle.term.proofs.Words.{never, and-left, and-right, and-both}
 use Rattle.term.proofs.Rows.{Reads, read-words, words-read, words-unique}
-use Rattle.term.proofs.Trees.{good-tree}
 use Rattle.term.proofs.Parts.{part-ends}
 use Rattle.term.proofs.Lists.{good-true, true-good}
-use Rattle.term.proofs.Renumbers.{length-renumber, width-renumber}
-use Rattle.term.proofs.Bodies.{closed-body, open-body, body-is, body-formed, body-keeps, within-same}
+use Rattle.term.proofs.Renumbers.{length-renumber}
+use Rattle.term.proofs.Bodies.{closed-body, open-body, body-is, body-formed, body-keeps}
 
 -- ---- the part that the words begin with
-pub part-stands : (ws : List ℕ) (f : Row) (after : List ℕ) → Stands 64 1 ws 0 f after → part ws ≡ some f
+pub read-stands : (n : ℕ) (ws : List ℕ) (f : Row) (after : List ℕ) → Stands n 1 ws 0 f after → read 1 ws ≡ some (f, after)
+read-stands n ws f after s = rw (s .same) (rw (s .wide) at (read-words f (s .formed) after))
+
+pub part-stands : (ws : List ℕ) (f : Row) (after : List ℕ) → length (words f) ≤ 4096 → Stands 64 1 ws 0 f after → part ws ≡ some f
 unfolding part
-part-stands ws f after s =
-    let r : read 1 ws ≡ some (f, after) = rw (s .same) (rw (s .wide) at (read-words f (s .formed) after)) in
-    rw (r, le-leb (kinds f) 2 (s .few), le-leb (nesting f) 64 (s .low))
+part-stands ws f after l s = rw (read-stands 64 ws f after s, le-leb (ranks f) 2 (s .few), le-leb (nesting f) 64 (s .low), le-leb (length (words f)) 4096 l)
+
+-- what stands there has too many words for a term
+part-long : (ws : List ℕ) (f : Row) (after : List ℕ) → 4096 < length (words f) → Stands 64 1 ws 0 f after → part ws ≡ none
+unfolding part
+part-long ws f after l s = rw (read-stands 64 ws f after s, le-leb (ranks f) 2 (s .few), le-leb (nesting f) 64 (s .low), lt-leb (length (words f)) 4096 l)
 
 abbrev StandsO : List ℕ → Option Row → Type 0
 StandsO ws none = Unit {0}
-StandsO ws (some f) = (after : List ℕ) × Stands 64 1 ws 0 f after
+StandsO ws (some f) = (after : List ℕ) × Stands 64 1 ws 0 f after × (length (words f) ≤ 4096)
 
 part-stood : (ws : List ℕ) → StandsO ws (part ws)
 unfolding part
 part-stood ws = found (read 1 ws) refl
   where
-    picked : (p : Row × List ℕ) → Reads 1 ws (p .0) (p .1) → (b : Bool) → leb (kinds (p .0)) 2 && leb (nesting (p .0)) 64 ≡ b → StandsO ws (pick b (some (p .0)) none)
+    picked : (p : Row × List ℕ) → Reads 1 ws (p .0) (p .1) → (b : Bool) → leb (ranks (p .0)) 2 && (leb (nesting (p .0)) 64 && leb (length (words (p .0))) 4096) ≡ b → StandsO ws (pick b (some (p .0)) none)
     picked p r true e = (
       p .1,
       record {
         formed = r .formed;
         few = leb-true _ _ (and-left _ _ e);
-        low = leb-true _ _ (and-right (leb (kinds (p .0)) 2) _ e);
+        low = leb-true _ _ (and-left _ _ (and-right (leb (ranks (p .0)) 2) _ e));
         wide = r .wide;
         same = sym (r .same);
       },
+      leb-true _ _ (and-right (leb (nesting (p .0)) 64) _ (and-right (leb (ranks (p .0)) 2) _ e)),
     )
     picked p r false e = tt
 
     found : (o : Got) → read 1 ws ≡ o → StandsO ws (ofTerm o)
     found none e = tt
-    found (some p) e = picked p (words-read 1 ws (p .0) (p .1) e) (leb (kinds (p .0)) 2 && leb (nesting (p .0)) 64) refl
+    found (some p) e = picked p (words-read 1 ws (p .0) (p .1) e) (leb (ranks (p .0)) 2 && (leb (nesting (p .0)) 64 && leb (length (words (p .0))) 4096)) refl
 
-pub part-is : (ws : List ℕ) (f : Row) → part ws ≡ some f → (after : List ℕ) × Stands 64 1 ws 0 f after
+pub part-is : (ws : List ℕ) (f : Row) → part ws ≡ some f → (after : List ℕ) × Stands 64 1 ws 0 f after × (length (words f) ≤ 4096)
 part-is ws f e = rw e at (part-stood ws)
 
 pub term-part : (ws : List ℕ) (i : IsTerm ws) → part ws ≡ some (i .tree)
 term-part ws i =
-    part-stands ws (i .tree) []
+    part-stands ws (i .tree) [] (rw (i .same) at (i .short))
     (record { formed = i .formed; few = i .few; low = i .low; wide = i .one; same = i .same ∙ sym (append-nil (words (i .tree))) })
 
 -- ---- what is written into a cleared slice
@@ -98,16 +100,20 @@ module _ (d : ℕ) (ys ws : List ℕ) where
   no-list g = rw g
 
   module _ (g : goodList d ys ≡ true) (out done : List ℕ) where
-    pub told-body : (a : ℕ) → RowTold (idBody d ys) 0 64 1 ws 0 out done (Done a)
+    pub told-body : (a : ℕ) → RowTold (idBody d ys) 0 64 1 ws 0 out done (Done a) → a ≤ 4096
         → (b : Row) × (bodyOf d ys ws ≡ some b) × (a ≡ length (words b)) × (done ≡ sets out 0 (words b))
     unfolding RowTold bodyOf closed
-    told-body a told =
+    told-body a told few =
         let b = renumber (idBody d ys) 0 (told .0) in (
           b,
-          rw (g, part-stands ws (told .0) (told .1) (told .2)) (closed-body d ys (told .0) (told .3)),
+          rw (g, part-stands ws (told .0) (told .1) (omega (arith, told .4, few)) (told .2)) (closed-body d ys (told .0) (told .3)),
           omega (arith, told .4, length-renumber (idBody d ys) 0 (told .0)),
           told .5,
         )
+
+    pub told-long : (a : ℕ) → RowTold (idBody d ys) 0 64 1 ws 0 out done (Done a) → 4096 < a → bodyOf d ys ws ≡ none
+    unfolding RowTold bodyOf
+    told-long a told many = rw (g, part-long ws (told .0) (told .1) (omega (arith, told .4, many)) (told .2))
 
     pub told-none : RowTold (idBody d ys) 0 64 1 ws 0 out done Stuck → bodyOf d ys ws ≡ none
     unfolding RowTold bodyOf closed
@@ -149,87 +155,21 @@ module _ (d : ℕ) (ys ws : List ℕ) where
     body-none out z e = rw e (refl, z)
 
     module _ (g : goodList d ys ≡ true) (out done : List ℕ) (n : ℕ) (z : out ≡ replicate room 0) (told : RowTold (idBody d ys) 0 64 1 ws 0 out done (Done n)) where
-      pub body-wrote : n ≤ room → (Words n ≡ bodyAnswer room (bodyOf d ys ws)) × (done ≡ bodyWords room (bodyOf d ys ws))
+      pub body-wrote : n ≤ 4096 → n ≤ room → (Words n ≡ bodyAnswer room (bodyOf d ys ws)) × (done ≡ bodyWords room (bodyOf d ys ws))
       unfolding bodyAnswer bodyWords
-      body-wrote h = shown (told-body g out done n told)
+      body-wrote few h = shown (told-body g out done n told few)
         where
           shown : (b : Row) × (bodyOf d ys ws ≡ some b) × (n ≡ length (words b)) × (done ≡ sets out 0 (words b))
               → (Words n ≡ bodyAnswer room (bodyOf d ys ws)) × (done ≡ bodyWords room (bodyOf d ys ws))
           shown t = rw (t .1, t .2) (wrote room (words (t .0)) done (omega (arith, t .2)) (rw (← z) (t .3)))
 
-      pub body-short : room < n → (last : List ℕ) → last ≡ replicate room 0 → (Short ≡ bodyAnswer room (bodyOf d ys ws)) × (last ≡ bodyWords room (bodyOf d ys ws))
+      pub body-short : n ≤ 4096 → room < n → (last : List ℕ) → last ≡ replicate room 0 → (Short ≡ bodyAnswer room (bodyOf d ys ws)) × (last ≡ bodyWords room (bodyOf d ys ws))
       unfolding bodyAnswer bodyWords
-      body-short h last l = shown (told-body g out done n told)
+      body-short few h last l = shown (told-body g out done n told few)
         where
           shown : (b : Row) × (bodyOf d ys ws ≡ some b) × (n ≡ length (words b)) × (done ≡ sets out 0 (words b))
               → (Short ≡ bodyAnswer room (bodyOf d ys ws)) × (last ≡ bodyWords room (bodyOf d ys ws))
           shown t = let r = no-room room (words (t .0)) (omega (arith, t .2)) in rw (t .1) (r .0, l ∙ r .1)
-
--- ---- terms of bodies
-module _ (d : ℕ) (ys ws : List ℕ) where
-  pub no-list-given : goodList d ys ≡ false → givenBody d ys ws ≡ none
-  unfolding givenBody
-  no-list-given g = rw g
-
-  pub no-term-given : (at : ℕ) → goodList d ys ≡ true → check termLimits ws ≡ Bad at → givenBody d ys ws ≡ none
-  unfolding givenBody
-  no-term-given at g c = rw (g, c)
-
-  module _ (g : goodList d ys ≡ true) (c : check termLimits ws ≡ Good) where
-    given : givenBody d ys ws ≡ part ws
-    unfolding givenBody
-    given = rw (g, c)
-
-    pub told-term : (out done : List ℕ) (a : ℕ) → RowTold (idTermWithin d ys) 0 64 1 ws 0 out done (Done a)
-        → (b : Row) × (givenBody d ys ws ≡ some b) × (idsWithin d ys b ≡ true) × (a ≡ length (words (toTerm d ys b))) × (done ≡ sets out 0 (words (toTerm d ys b)))
-    unfolding RowTold idsWithin
-    told-term out done a told =
-        let t = within-same d ys (told .0) (told .3) in (
-          told .0,
-          given ∙ part-stands ws (told .0) (told .1) (told .2),
-          told .3,
-          omega (arith, told .4, length-renumber (idTermWithin d ys) 0 (told .0), ap (λ (r : Row). length (words r)) t),
-          rw (← t) (told .5),
-        )
-
-    pub told-over : (out done : List ℕ) → RowTold (idTermWithin d ys) 0 64 1 ws 0 out done Stuck
-        → (b : Row) × (givenBody d ys ws ≡ some b) × (idsWithin d ys b ≡ false)
-    unfolding RowTold idsWithin
-    told-over out done told =
-        let i = good-tree termLimits (omega arith) ws c in
-        let p = term-part ws i in
-        let s = part-is ws (i .tree) p in (i .tree, given ∙ p, told (i .tree) (s .0) (s .1))
-
-  -- what write_term answers and leaves, where its slice was cleared before the walk and after a refusal
-  module _ (room : ℕ) where
-    pub term-none : (out : List ℕ) → out ≡ replicate room 0 → givenBody d ys ws ≡ none
-        → (NoBody ≡ termAnswer room d ys (givenBody d ys ws)) × (out ≡ termWords room d ys (givenBody d ys ws))
-    unfolding termAnswer termWords
-    term-none out z e = rw e (refl, z)
-
-    module _ (g : goodList d ys ≡ true) (c : check termLimits ws ≡ Good) (out done : List ℕ) (z : out ≡ replicate room 0) where
-      pub term-over : RowTold (idTermWithin d ys) 0 64 1 ws 0 out done Stuck → (last : List ℕ) → last ≡ replicate room 0
-          → (Over ≡ termAnswer room d ys (givenBody d ys ws)) × (last ≡ termWords room d ys (givenBody d ys ws))
-      unfolding termAnswer termWords
-      term-over told last l = let t = told-over g c out done told in rw (t .1, t .2) (refl, l)
-
-      Fits : ℕ → Type 0
-      Fits n = (b : Row) × (givenBody d ys ws ≡ some b) × (idsWithin d ys b ≡ true) × (n ≡ length (words (toTerm d ys b))) × (done ≡ sets out 0 (words (toTerm d ys b)))
-
-      module _ (n : ℕ) (told : RowTold (idTermWithin d ys) 0 64 1 ws 0 out done (Done n)) where
-        pub term-wrote : n ≤ room → (Words n ≡ termAnswer room d ys (givenBody d ys ws)) × (done ≡ termWords room d ys (givenBody d ys ws))
-        unfolding termAnswer termWords Fits
-        term-wrote h = shown (told-term g c out done n told)
-          where
-            shown : Fits n → (Words n ≡ termAnswer room d ys (givenBody d ys ws)) × (done ≡ termWords room d ys (givenBody d ys ws))
-            shown t = rw (t .1, t .2, t .3) (wrote room (words (toTerm d ys (t .0))) done (omega (arith, t .3)) (rw (← z) (t .4)))
-
-        pub term-short : room < n → (last : List ℕ) → last ≡ replicate room 0 → (Short ≡ termAnswer room d ys (givenBody d ys ws)) × (last ≡ termWords room d ys (givenBody d ys ws))
-        unfolding termAnswer termWords Fits
-        term-short h last l = shown (told-term g c out done n told)
-          where
-            shown : Fits n → (Short ≡ termAnswer room d ys (givenBody d ys ws)) × (last ≡ termWords room d ys (givenBody d ys ws))
-            shown t = let r = no-room room (words (toTerm d ys (t .0))) (omega (arith, t .3)) in rw (t .1, t .2) (r .0, l ∙ r .1)
 
 -- ---- what a body of a part is
 pub record BodyIs (d : ℕ) (ys ws : List ℕ) (b : Row) : Type 0 where
@@ -237,6 +177,7 @@ pub record BodyIs (d : ℕ) (ys ws : List ℕ) (b : Row) : Type 0 where
   pub tree : Row
   pub after : List ℕ
   pub stands : Stands 64 1 ws 0 tree after
+  pub short : length (words tree) ≤ 4096
   pub body : toBody d ys tree ≡ some b
 
 pub body-of : (d : ℕ) (ys ws : List ℕ) (b : Row) → bodyOf d ys ws ≡ some b → BodyIs d ys ws b
@@ -246,7 +187,7 @@ body-of d ys ws b e = listed (goodList d ys) refl e
     found : goodList d ys ≡ true → (o : Option Row) → part ws ≡ o → bodyO d ys o ≡ some b → BodyIs d ys ws b
     found g none p q = never (cc)
     found g (some t) p q =
-        let s = part-is ws t p in record { list = good-true d ys g; tree = t; after = s .0; stands = s .1; body = q }
+        let s = part-is ws t p in record { list = good-true d ys g; tree = t; after = s .0; stands = s .1; short = s .2; body = q }
 
     listed : (c : Bool) → goodList d ys ≡ c → pick c (bodyO d ys (part ws)) none ≡ some b → BodyIs d ys ws b
     listed true g q = found g (part ws) refl q
@@ -254,12 +195,12 @@ body-of d ys ws b e = listed (goodList d ys) refl e
 
 pub of-body : (d : ℕ) (ys ws : List ℕ) (b : Row) → BodyIs d ys ws b → bodyOf d ys ws ≡ some b
 unfolding bodyOf
-of-body d ys ws b i = rw (true-good d ys (i .list), part-stands ws (i .tree) (i .after) (i .stands)) (i .body)
+of-body d ys ws b i = rw (true-good d ys (i .list), part-stands ws (i .tree) (i .after) (i .short) (i .stands)) (i .body)
 
 -- the body of the part that the words begin with, by the part
-pub body-stands : (d : ℕ) (ys ws : List ℕ) (t : Row) (after : List ℕ) → GoodList d ys → Stands 64 1 ws 0 t after → bodyOf d ys ws ≡ toBody d ys t
+pub body-stands : (d : ℕ) (ys ws : List ℕ) (t : Row) (after : List ℕ) → GoodList d ys → length (words t) ≤ 4096 → Stands 64 1 ws 0 t after → bodyOf d ys ws ≡ toBody d ys t
 unfolding bodyOf
-body-stands d ys ws t after g s = rw (true-good d ys g, part-stands ws t after s)
+body-stands d ys ws t after g l s = rw (true-good d ys g, part-stands ws t after l s)
 
 -- it is one tree of the table, as long and as deep as the part
 pub body-tree : (d : ℕ) (ys ws : List ℕ) (b : Row) → BodyIs d ys ws b → Formed b × (width b ≡ 1)
@@ -281,7 +222,7 @@ part-body ws i at d ys b e = shown (body-of d ys (drop at ws) b e)
             tree = b;
             one = t .1;
             formed = t .0;
-            few = omega (arith, k .kind, j .stands .few);
+            few = omega (arith, k .rank, j .stands .few);
             low = omega (arith, k .deep, j .stands .low);
             short = omega (arith, k .long, n, i .short);
             same = refl;
@@ -337,21 +278,29 @@ module _ (d : ℕ) (ys ws : List ℕ) (c : ℕ) (zs vs : List ℕ) where
   unfolding sameBody
   bodies-same b i j = rw (i, j) (words-same (words b))
 
+  -- rows with the same images are equally long
+  as-long : (f t : Row) → renumber (idBody d ys) 0 f ≡ renumber (idBody c zs) 0 t → length (words t) ≡ length (words f)
+  as-long f t e = sym (length-renumber (idBody c zs) 0 t) ∙ ap (λ (r : Row). length (words r)) (sym e) ∙ length-renumber (idBody d ys) 0 f
+
   module _ (g : goodList d ys ≡ true) (h : goodList c zs ≡ true) where
-    pub told-same : (a : ℕ) → SameTold (idBody d ys) (idBody c zs) 0 64 1 ws vs 0 (Done a) → true ≡ sameBody d ys ws c zs vs
+    pub told-same : (a : ℕ) → SameTold (idBody d ys) (idBody c zs) 0 64 1 ws vs 0 (Done a) → a ≤ 4096 → true ≡ sameBody d ys ws c zs vs
     unfolding SameTold sameBody bodyOf closed
-    told-same a told =
+    told-same a told few =
         sym
         (rw (
           g,
           h,
-          part-stands ws (told .0) (told .2) (told .4),
-          part-stands vs (told .1) (told .3) (told .5),
+          part-stands ws (told .0) (told .2) (omega (arith, told .9, few)) (told .4),
+          part-stands vs (told .1) (told .3) (omega (arith, told .9, few, as-long (told .0) (told .1) (told .8))) (told .5),
           closed-body d ys (told .0) (told .6),
           closed-body c zs (told .1) (told .7),
           told .8,
         )
         (words-same (words (renumber (idBody c zs) 0 (told .1)))))
+
+    pub told-both-long : (a : ℕ) → SameTold (idBody d ys) (idBody c zs) 0 64 1 ws vs 0 (Done a) → 4096 < a → false ≡ sameBody d ys ws c zs vs
+    unfolding SameTold bodyOf
+    told-both-long a told many = not-left (rw (g, part-long ws (told .0) (told .2) (omega (arith, told .9, many)) (told .4)))
 
     pub told-differ : SameTold (idBody d ys) (idBody c zs) 0 64 1 ws vs 0 Stuck → false ≡ sameBody d ys ws c zs vs
     unfolding SameTold closed

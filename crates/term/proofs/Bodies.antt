@@ -10,11 +10,11 @@ use lib.Dec.{leb}
 use lib.ListN.{length, getD}
 use borrow.Author.Tests.{leb-true, leb-false, le-leb, lt-leb}
 use Rattle.term.specs.Word.{pick}
-use Rattle.term.specs.Row.{Row, width, words, nesting, kinds, Formed}
+use Rattle.term.specs.Row.{Row, width, words, nesting, ranks, Formed}
 use Rattle.term.specs.Renumber.{position, Listed, GoodList, SameSet, three, idTerm, parameter, idBody, renumber, named, toTerm, closed, toBody, within, idTermWithin, idsWithin}
 use Rattle.term.proofs.Words.{never}
 use Rattle.term.proofs.Lists.{position-is, position-at, listed-range, at-most, all-there}
-use Rattle.term.proofs.Renumbers.{Every, implied, both, everywhere, shallow, agree, unmoved, twice, named-true, true-named, every-renumber, IsId, formed-ids, formed-renumber, formed-renumbered, width-renumber, length-renumber, nesting-renumber, kinds-renumber}
+use Rattle.term.proofs.Renumbers.{Every, implied, both, everywhere, shallow, agree, unmoved, twice, named-true, true-named, every-renumber, IsId, formed-ids, formed-renumber, formed-renumbered, width-renumber, length-renumber, nesting-renumber, ranks-renumber}
 
 -- ---- ids: the three cases, as laws
 pub data Case (e u i : ℕ) : Type 0 where
@@ -162,10 +162,10 @@ module _ (d : ℕ) (ys : List ℕ) where
     pub wide : width g ≡ width f
     pub long : length (words g) ≡ length (words f)
     pub deep : nesting g ≡ nesting f
-    pub kind : kinds g ≡ kinds f
+    pub rank : ranks g ≡ ranks f
 
   keeps : (m : ℕ → ℕ → ℕ) (f : Row) → Keeps f (renumber m 0 f)
-  keeps m f = record { wide = width-renumber m 0 f; long = length-renumber m 0 f; deep = nesting-renumber m 0 f; kind = kinds-renumber m 0 f }
+  keeps m f = record { wide = width-renumber m 0 f; long = length-renumber m 0 f; deep = nesting-renumber m 0 f; rank = ranks-renumber m 0 f }
 
   pub body-keeps : (t b : Row) → toBody d ys t ≡ some b → Keeps t b
   body-keeps t b q = rw (body-is t b q .1) at (keeps (idBody d ys) t)

@@ -2,8 +2,9 @@
 use mathlib.Core.Path.{_≡_, refl}
 use mathlib.Core.List.{List, [], _∷_, _++_}
 use Prim.Native.Nat.{ℕ, suc, max, _≤_}
-use Rattle.term.specs.Word.{Head, symbol, abstraction, variable, pattern, kind, count, ident, word, InTable}
-use Rattle.term.specs.Row.{Row, nothing, node, width, words, nesting, kinds, Formed, _⧺_}
+use native.Mathlib.Omega.{arith}
+use Rattle.term.specs.Word.{Head, symbol, abstraction, variable, pattern, kind, rank, count, ident, word, InTable}
+use Rattle.term.specs.Row.{Row, nothing, node, width, words, nesting, ranks, Formed, _⧺_}
 use Rattle.term.specs.Renumber.{inside, renumberHead, renumber, toTerm, idTerm}
 
 pub kind-symbol : (i c : ℕ) → kind (symbol i c) ≡ 0
@@ -21,6 +22,30 @@ kind-variable i = refl
 pub kind-pattern : (i c : ℕ) → kind (pattern i c) ≡ 3
 unfolding kind
 kind-pattern i c = refl
+
+pub rank-symbol : (i c : ℕ) → rank (symbol i c) ≡ 0
+unfolding rank
+rank-symbol i c = refl
+
+pub rank-abstraction : rank abstraction ≡ 1
+unfolding rank
+rank-abstraction = refl
+
+pub rank-variable : (i : ℕ) → rank (variable i) ≡ 2
+unfolding rank
+rank-variable i = refl
+
+pub rank-pattern : (i c : ℕ) → rank (pattern i c) ≡ 3
+unfolding rank
+rank-pattern i c = refl
+
+-- what is of a term has no pattern variable's kind
+pub no-pattern : (h : Head) → rank h ≤ 2 → kind h ≡ 3 → ⊥
+unfolding rank kind
+no-pattern (symbol i c) r k = omega arith
+no-pattern abstraction r k = omega arith
+no-pattern (variable i) r k = omega arith
+no-pattern (pattern i c) r k = omega arith
 
 pub count-symbol : (i c : ℕ) → count (symbol i c) ≡ c
 unfolding count
@@ -63,6 +88,10 @@ pub ruleset head-clauses = (
   kind-abstraction,
   kind-variable,
   kind-pattern,
+  rank-symbol,
+  rank-abstraction,
+  rank-variable,
+  rank-pattern,
   count-symbol,
   count-abstraction,
   count-variable,
@@ -105,13 +134,13 @@ pub nesting-node : (h : Head) (kids rest : Row) → nesting (node h kids rest) �
 unfolding nesting
 nesting-node h kids rest = refl
 
-pub kinds-nothing : kinds nothing ≡ 0
-unfolding kinds
-kinds-nothing = refl
+pub ranks-nothing : ranks nothing ≡ 0
+unfolding ranks
+ranks-nothing = refl
 
-pub kinds-node : (h : Head) (kids rest : Row) → kinds (node h kids rest) ≡ max (kind h) (max (kinds kids) (kinds rest))
-unfolding kinds
-kinds-node h kids rest = refl
+pub ranks-node : (h : Head) (kids rest : Row) → ranks (node h kids rest) ≡ max (rank h) (max (ranks kids) (ranks rest))
+unfolding ranks
+ranks-node h kids rest = refl
 
 pub join-nothing-left : (g : Row) → nothing ⧺ g ≡ g
 unfolding _⧺_
@@ -141,8 +170,8 @@ pub ruleset row-clauses = (
   width-node,
   nesting-nothing,
   nesting-node,
-  kinds-nothing,
-  kinds-node,
+  ranks-nothing,
+  ranks-node,
   join-nothing-left,
   join-node,
 )

@@ -8,14 +8,14 @@ use native.Mathlib.Omega.{arith}
 use lib.Dec.{leb, eqb}
 use lib.ListN.{length, getD}
 use borrow.Author.Tests.{le-leb, lt-leb, leb-true}
-use Rattle.term.specs.declared.renumber.Way.{Way}
-use Rattle.term.specs.declared.renumber.Way.the-variants.{ToBody, ToTerm}
-use Rattle.term.specs.declared.renumber.Image.{Image}
-use Rattle.term.specs.declared.renumber.Image.the-variants.{Word, None}
-use Rattle.term.specs.Word.{Head, symbol, abstraction, variable, pattern, pick, kind, count, ident, word, InTable, identOf, kindOf, headOf}
-use Rattle.term.specs.Check.{kindOr}
+use Rattle.term.specs.declared.image.Way.{Way}
+use Rattle.term.specs.declared.image.Way.the-variants.{ToBody, ToTerm}
+use Rattle.term.specs.declared.image.Image.{Image}
+use Rattle.term.specs.declared.image.Image.the-variants.{Word, None}
+use Rattle.term.specs.Word.{Head, symbol, abstraction, variable, pattern, pick, kind, rank, count, ident, word, InTable, identOf, kindOf, headOf}
+use Rattle.term.specs.Check.{rankOr}
 use Rattle.term.specs.Renumber.{position, parameter, three, idTerm, idBody, within, idTermWithin, inside, renumberHead, namedHead}
-use Rattle.term.specs.Walk.{image, imageOf, insideWord}
+use Rattle.term.specs.told.Walk.{image, imageOf, insideWord}
 use Rattle.term.proofs.Words.{never, and-left, and-right, WordIs, word-head, head-word, head-is, kind-word}
 use Rattle.term.proofs.Lists.{position-le}
 use Rattle.term.proofs.Bodies.{term-own, term-inner, term-outside, body-own, body-inner, body-outside}
@@ -75,13 +75,13 @@ image-small ToBody d ys e i k s t = go (leb i e) (leb i (e + d))
 
 -- ---- words
 module _ (m : ℕ → ℕ → ℕ) (e : ℕ) where
-  pub image-none : (o : Option Head) → 2 < kindOr 4 o → None ≡ imageOf m e o
+  pub image-none : (o : Option Head) → 2 < rankOr 4 o → None ≡ imageOf m e o
   unfolding imageOf
   image-none none h = refl
-  image-none (some x) h = rw (lt-leb (kind x) 2 h)
+  image-none (some x) h = rw (lt-leb (rank x) 2 h)
 
-  pub image-other : (w : ℕ) (o : Option Head) → WordIs w o → kindOr 4 o ≤ 2 → (kindOr 4 o ≡ 2 → ⊥) → Word w ≡ imageOf m e o
-  unfolding imageOf namedHead renumberHead kind
+  pub image-other : (w : ℕ) (o : Option Head) → WordIs w o → rankOr 4 o ≤ 2 → (rankOr 4 o ≡ 2 → ⊥) → Word w ≡ imageOf m e o
+  unfolding imageOf namedHead renumberHead rank
   image-other w none i h n = absurd (omega arith)
   image-other w (some (symbol a c)) i h n = ap Word (sym (i .0))
   image-other w (some abstraction) i h n = ap Word (sym (i .0))
@@ -89,8 +89,8 @@ module _ (m : ℕ → ℕ → ℕ) (e : ℕ) where
   image-other w (some (pattern a c)) i h n = absurd (omega arith)
 
   -- the id of a variable's word
-  variable-is : (w : ℕ) (o : Option Head) → WordIs w o → kindOr 4 o ≡ 2 → o ≡ some (variable (identOf w))
-  unfolding kind word count ident InTable
+  variable-is : (w : ℕ) (o : Option Head) → WordIs w o → rankOr 4 o ≡ 2 → o ≡ some (variable (identOf w))
+  unfolding kind rank word count ident InTable
   variable-is w none i h = absurd (omega arith)
   variable-is w (some (symbol a c)) i h = absurd (omega arith)
   variable-is w (some abstraction) i h = absurd (omega arith)
@@ -98,19 +98,19 @@ module _ (m : ℕ → ℕ → ℕ) (e : ℕ) where
       let q : a ≡ identOf w = omega (arith, i .0, i .1 .1) in ap (λ (x : ℕ). some (variable x)) q
   variable-is w (some (pattern a c)) i h = absurd (omega arith)
 
-  pub image-variable : (w : ℕ) (o : Option Head) → WordIs w o → kindOr 4 o ≡ 2 → (i : ℕ) → i ≡ m e (identOf w) → (i ≡ 0 → ⊥) → Word (33554432 + i) ≡ imageOf m e o
-  unfolding imageOf namedHead renumberHead kind word count ident
+  pub image-variable : (w : ℕ) (o : Option Head) → WordIs w o → rankOr 4 o ≡ 2 → (i : ℕ) → i ≡ m e (identOf w) → (i ≡ 0 → ⊥) → Word (33554432 + i) ≡ imageOf m e o
+  unfolding imageOf namedHead renumberHead kind rank word count ident
   image-variable w o g h i q n = sym (rw (variable-is w o g h, ← q, le-leb 1 i (omega (arith, n))))
 
-  pub image-no-id : (w : ℕ) (o : Option Head) → WordIs w o → kindOr 4 o ≡ 2 → m e (identOf w) ≡ 0 → None ≡ imageOf m e o
-  unfolding imageOf namedHead renumberHead kind
+  pub image-no-id : (w : ℕ) (o : Option Head) → WordIs w o → rankOr 4 o ≡ 2 → m e (identOf w) ≡ 0 → None ≡ imageOf m e o
+  unfolding imageOf namedHead renumberHead rank
   image-no-id w o g h q = sym (rw (variable-is w o g h, q))
 
   -- what a word with an image is
   pub record Imaged (w v : ℕ) : Type 0 where
     pub head : Head
     pub is : headOf w ≡ some head
-    pub low : kind head ≤ 2
+    pub low : rank head ≤ 2
     pub some-id : namedHead m e head ≡ true
     pub out : v ≡ word (renumberHead m e head)
 
@@ -118,25 +118,25 @@ module _ (m : ℕ → ℕ → ℕ) (e : ℕ) where
   unfolding imageOf
   imaged w v q = found (headOf w) refl q
     where
-      picked : (h : Head) (b : Bool) → leb (kind h) 2 && namedHead m e h ≡ b → pick b (Word (word (renumberHead m e h))) None ≡ Word v → headOf w ≡ some h → Imaged w v
+      picked : (h : Head) (b : Bool) → leb (rank h) 2 && namedHead m e h ≡ b → pick b (Word (word (renumberHead m e h))) None ≡ Word v → headOf w ≡ some h → Imaged w v
       picked h true r q s =
           record {
             head = h;
             is = s;
-            low = leb-true (kind h) 2 (and-left _ _ r);
-            some-id = and-right (leb (kind h) 2) _ r;
+            low = leb-true (rank h) 2 (and-left _ _ r);
+            some-id = and-right (leb (rank h) 2) _ r;
             out = cc;
           }
       picked h false r q s = never (cc)
 
       found : (o : Option Head) → headOf w ≡ o → imageOf m e o ≡ Word v → Imaged w v
       found none s q = never (cc)
-      found (some h) s q = picked h (leb (kind h) 2 && namedHead m e h) refl q s
+      found (some h) s q = picked h (leb (rank h) 2 && namedHead m e h) refl q s
 
   -- a head of a term whose word has no image has no id
-  pub no-image : (h : Head) → InTable h → kind h ≤ 2 → imageOf m e (headOf (word h)) ≡ None → namedHead m e h ≡ false
+  pub no-image : (h : Head) → InTable h → rank h ≤ 2 → imageOf m e (headOf (word h)) ≡ None → namedHead m e h ≡ false
   unfolding imageOf
-  no-image h t l q = picked (namedHead m e h) refl (rw (head-word h t, le-leb (kind h) 2 l) at q)
+  no-image h t l q = picked (namedHead m e h) refl (rw (head-word h t, le-leb (rank h) 2 l) at q)
     where
       picked : (b : Bool) → namedHead m e h ≡ b → pick b (Word (word (renumberHead m e h))) None ≡ None → namedHead m e h ≡ false
       picked true r q = never (cc)
@@ -165,9 +165,9 @@ inside-small w e = go (eqb (kindOf w) 1)
     go false = omega arith
 
 -- heads of a term whose images are the same word have the same image
-pub same-image : (m n : ℕ → ℕ → ℕ) (e : ℕ) (h g : Head) → InTable h → InTable g → kind h ≤ 2 → kind g ≤ 2
+pub same-image : (m n : ℕ → ℕ → ℕ) (e : ℕ) (h g : Head) → InTable h → InTable g → rank h ≤ 2 → rank g ≤ 2
     → word (renumberHead m e h) ≡ word (renumberHead n e g) → renumberHead m e h ≡ renumberHead n e g
-unfolding InTable kind renumberHead word count ident
+unfolding InTable kind rank renumberHead word count ident
 same-image m n e (symbol i c) (symbol j b) s t k l q =
     let x : i ≡ j = omega arith in let y : c ≡ b = omega arith in ap₂ symbol x y
 same-image m n e (symbol i c) abstraction s t k l q = absurd (omega arith)
@@ -183,6 +183,6 @@ same-image m n e (variable i) (variable j) s t k l q = let x : m e i ≡ n e j =
 same-image m n e (variable i) (pattern j b) s t k l q = absurd (omega arith)
 same-image m n e (pattern i c) g s t k l q = absurd (omega arith)
 
--- the head of a word of kind 2
-pub variable-word : (w : ℕ) → kindOr 4 (headOf w) ≡ 2 → headOf w ≡ some (variable (identOf w))
+-- the head of a word of a variable
+pub variable-word : (w : ℕ) → rankOr 4 (headOf w) ≡ 2 → headOf w ≡ some (variable (identOf w))
 variable-word w e = variable-is (λ e i. i) 0 w (headOf w) (word-head w) e

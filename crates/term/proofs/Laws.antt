@@ -6,15 +6,15 @@ pub use Rattle.term.proofs.Words.{never, and-left, and-right, and-both}
 pub use Rattle.term.proofs.Words.{head-word, head-is, kind-word, count-word, ident-word}
 pub use Rattle.term.proofs.Images.{variable-word, inside-is, inside-small}
 -- Rows: the clauses of their definitions, and rows side by side.
-pub use Rattle.term.proofs.Clauses.{kind-symbol, kind-abstraction, kind-variable, kind-pattern, count-symbol, count-abstraction, count-variable, count-pattern, ident-variable, ident-pattern, inside-symbol, inside-abstraction, inside-pattern, head-clauses, abstraction-in-table, pattern-few}
-pub use Rattle.term.proofs.Clauses.{words-nothing, words-node, width-nothing, width-node, nesting-nothing, nesting-node, kinds-nothing, kinds-node, join-nothing-left, join-node, row-clauses, FormedNode, formed-nothing, formed-node, node-formed}
-pub use Rattle.term.proofs.Rows.{join-nothing, join-join, width-join, words-join, nesting-join, kinds-join, formed-join}
+pub use Rattle.term.proofs.Clauses.{kind-symbol, kind-abstraction, kind-variable, kind-pattern, rank-symbol, rank-abstraction, rank-variable, rank-pattern, no-pattern, count-symbol, count-abstraction, count-variable, count-pattern, ident-variable, ident-pattern, inside-symbol, inside-abstraction, inside-pattern, head-clauses, abstraction-in-table, pattern-few}
+pub use Rattle.term.proofs.Clauses.{words-nothing, words-node, width-nothing, width-node, nesting-nothing, nesting-node, ranks-nothing, ranks-node, join-nothing-left, join-node, row-clauses, FormedNode, formed-nothing, formed-node, node-formed}
+pub use Rattle.term.proofs.Rows.{join-nothing, join-join, width-join, words-join, nesting-join, ranks-join, formed-join}
 -- Words are uniquely readable, both ways.
 pub use Rattle.term.proofs.Rows.{Reads, read-words, words-read, words-unique}
 -- A list of words is good just where it is one tree within the limits.
 pub use Rattle.term.proofs.Trees.{tree-good, good-tree}
 -- A part of a term is a term: every offset begins one, and it ends where its counts say.
-pub use Rattle.term.proofs.Parts.{part-begins, stands-term, part-ends, past-none, past-words, passed-first}
+pub use Rattle.term.proofs.Parts.{part-begins, stands-term, stands-short, part-ends, past-none, past-words, passed-first}
 pub use Rattle.term.proofs.Answers.{part-stands, part-is, term-part}
 -- Lists: the test says what it tests; as many ids as d are all of them.
 pub use Rattle.term.proofs.Lists.{suffix, good-true, true-good, at-most, all-there, position-is, position-at, listed-range}
@@ -37,10 +37,14 @@ pub use Rattle.term.proofs.Near.{Near, near-unique, near-nothing, near-
 -- What is left in a lent slice: the words and zeros after them where they fit, else zeros.
 pub use Rattle.term.proofs.Answers.{cleared, wrote, no-room}
 pub use Rattle.term.proofs.Leavings.{written-fits, written-short, padded-fits, padded-short, fits-written, body-answer, body-words, answer-fits}
--- What the walk from a body to a term writes, and when its ids are within the limit.
-pub use Rattle.term.proofs.Imaged.{image-wrote, image-stuck, every-nothing, every-node, small-formed}
+-- A body in a place with so many levels left, by what comes back; and when the ids of a term are within the limit.
+pub use Rattle.term.proofs.Imaged.{below-wrote, below-none, every-nothing, every-node, small-formed}
 -- Two results that meet one promise are equal.
-pub use Rattle.term.proofs.Settled.{settled, settled-both, settled-three}
+pub use Rattle.term.proofs.Settled.{settled}
+-- An answer is told by its number and place; what checking a term gives is what it answers.
+pub use Rattle.term.proofs.Answering.{answered-same, check-term-is}
+-- Zeros are 0 everywhere.
+pub use Rattle.term.proofs.Leavings.{zero-at}
 -- Renumbering, head by head; every variable of a row, node by node.
 pub use Rattle.term.proofs.Renumbers.{EveryHead}
 pub use Rattle.term.proofs.Heads.{renumber-symbol, renumber-abstraction, renumber-variable, renumber-pattern, inside-variable, variable-id, id-variable, every-parts}

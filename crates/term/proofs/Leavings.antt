@@ -3,16 +3,22 @@ use mathlib.Core.Path.{_≡_, refl, sym, _∙_}
 use mathlib.Core.Bool.{Bool, true, false}
 use mathlib.Core.List.{List, _++_}
 use mathlib.Core.Option.{Option, none, some}
-use Prim.Native.Nat.{ℕ, _-_, _≤_, _<_}
+use Prim.Native.Nat.{ℕ, zero, suc, _-_, _≤_, _<_}
 use lib.Dec.{leb}
-use lib.ListN.{length, replicate}
+use lib.ListN.{length, getD, replicate}
 use borrow.Author.Tests.{le-leb, lt-leb, leb-true, leb-false}
 use Rattle.term.specs.declared.part.Written.{Written}
-use Rattle.term.specs.declared.part.Written.the-variants.{Words, NoBody, Over, Short}
+use Rattle.term.specs.declared.part.Written.the-variants.{Words, NoBody, Short}
 use Rattle.term.specs.Word.{pick}
 use Rattle.term.specs.Row.{Row, words}
 use Rattle.term.specs.Part.{written, padded, bodyAnswer, bodyWords}
 use Rattle.term.proofs.Words.{never}
+
+-- zeros are 0 everywhere
+pub zero-at : (n i : ℕ) → _≡_ {A = ℕ} (getD {A = ℕ} (replicate n 0) i 0) 0
+zero-at zero i = refl
+zero-at (suc n) zero = refl
+zero-at (suc n) (suc i) = zero-at n i
 
 pub written-fits : (room : ℕ) (ws : List ℕ) → length ws ≤ room → written room ws ≡ Words (length ws)
 unfolding written

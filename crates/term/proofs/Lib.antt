@@ -18,4 +18,5 @@ mod Above
 mod Clauses
 mod Computed
 mod Settled
+mod Answering
 pub mod Laws

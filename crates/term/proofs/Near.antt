@@ -4,8 +4,8 @@ use mathlib.Core.List.{List, [], _∷_, _++_, append-assoc}
 use Prim.Native.Nat.{ℕ, zero, suc, _+_, _-_, _≤_, _<_, max}
 use native.Mathlib.Omega.{arith}
 use lib.ListN.{length}
-use Rattle.term.specs.Word.{Head, symbol, abstraction, variable, pattern, kind, count, ident, word, InTable}
-use Rattle.term.specs.Row.{Row, nothing, node, width, words, nesting, kinds, Formed, _⧺_}
+use Rattle.term.specs.Word.{Head, symbol, abstraction, variable, pattern, kind, rank, count, ident, word, InTable}
+use Rattle.term.specs.Row.{Row, nothing, node, width, words, nesting, ranks, Formed, _⧺_}
 use Rattle.term.specs.Renumber.{GoodList, idTerm, inside, renumberHead, renumber, toTerm}
 use Rattle.term.proofs.Words.{never}
 use Rattle.term.proofs.Rows.{width-join}
@@ -24,8 +24,8 @@ unfoldable pub Near : Row → Type 0
 Near nothing = Unit {0}
 Near (node h kids rest) = NearHead h × (width kids ≡ count h) × Near kids × Near rest
 
-near-head : (h g : Head) → NearHead h → InTable g → kind g ≤ 2 → word h ≡ word g → h ≡ g
-unfolding NearHead InTable kind word count ident
+near-head : (h g : Head) → NearHead h → InTable g → rank g ≤ 2 → word h ≡ word g → h ≡ g
+unfolding NearHead InTable kind rank word count ident
 near-head (symbol i c) (symbol j b) n t k e = let x : i ≡ j = omega arith in let y : c ≡ b = omega arith in ap₂ symbol x y
 near-head (symbol i c) abstraction n t k e = absurd (omega arith)
 near-head (symbol i c) (variable j) n t k e = absurd (omega arith)
@@ -40,8 +40,8 @@ near-head (variable i) (variable j) n t k e = let x : i ≡ j = omega arith in a
 near-head (variable i) (pattern j b) n t k e = absurd (omega arith)
 near-head (pattern i c) g n t k e = absurd n
 
-pub near-unique : (f t : Row) (s u : List ℕ) → Near f → Formed t → kinds t ≤ 2 → width f ≡ width t → words f ++ s ≡ words t ++ u → (f ≡ t) × (s ≡ u)
-unfolding Near Formed kinds width words
+pub near-unique : (f t : Row) (s u : List ℕ) → Near f → Formed t → ranks t ≤ 2 → width f ≡ width t → words f ++ s ≡ words t ++ u → (f ≡ t) × (s ≡ u)
+unfolding Near Formed ranks width words
 near-unique nothing nothing s u n p k w e = (refl, e)
 near-unique nothing (node g ks rs) s u n p k w e = absurd (omega arith)
 near-unique (node h kids rest) nothing s u n p k w e = absurd (omega arith)
@@ -58,8 +58,8 @@ pub near-nothing : Near nothing
 unfolding Near
 near-nothing = tt
 
-pub near-node : (h : Head) (kids rest : Row) → InTable h → kind h ≤ 1 → width kids ≡ count h → Near kids → Near rest → Near (node h kids rest)
-unfolding Near NearHead InTable kind
+pub near-node : (h : Head) (kids rest : Row) → InTable h → rank h ≤ 1 → width kids ≡ count h → Near kids → Near rest → Near (node h kids rest)
+unfolding Near NearHead InTable rank
 near-node (symbol i c) kids rest t k w p q = (t, w, p, q)
 near-node abstraction kids rest t k w p q = (tt, w, p, q)
 near-node (variable i) kids rest t k w p q = absurd (omega arith)
@@ -70,15 +70,15 @@ unfolding Near _⧺_
 near-join nothing g p q = q
 near-join (node h kids rest) g p q = (p .0, p .1, p .2, near-join rest g (p .3) q)
 
-near-renumbered-head : (m : ℕ → ℕ → ℕ) (e : ℕ) (h : Head) → InTable h → kind h ≤ 2 → EveryHead (λ e i. m e i < 16777216) e h → NearHead (renumberHead m e h)
-unfolding NearHead InTable kind renumberHead
+near-renumbered-head : (m : ℕ → ℕ → ℕ) (e : ℕ) (h : Head) → InTable h → rank h ≤ 2 → EveryHead (λ e i. m e i < 16777216) e h → NearHead (renumberHead m e h)
+unfolding NearHead InTable rank renumberHead
 near-renumbered-head m e (symbol i c) t k p = t
 near-renumbered-head m e abstraction t k p = tt
 near-renumbered-head m e (variable i) t k p = p
 near-renumbered-head m e (pattern i c) t k p = absurd (omega arith)
 
-near-renumber : (m : ℕ → ℕ → ℕ) (e : ℕ) (r : Row) → Formed r → kinds r ≤ 2 → Every (λ e i. m e i < 16777216) e r → Near (renumber m e r)
-unfolding Near Formed kinds Every renumber
+near-renumber : (m : ℕ → ℕ → ℕ) (e : ℕ) (r : Row) → Formed r → ranks r ≤ 2 → Every (λ e i. m e i < 16777216) e r → Near (renumber m e r)
+unfolding Near Formed ranks Every renumber
 near-renumber m e nothing p k q = tt
 near-renumber m e (node h kids rest) p k q = (
   near-renumbered-head m e h (p .0) (omega arith) (q .0),
@@ -88,7 +88,7 @@ near-renumber m e (node h kids rest) p k q = (
 )
 
 -- a body turned into a term under few abstractions
-pub term-near : (d : ℕ) (ys : List ℕ) → GoodList d ys → d ≤ 4096 → (b : Row) → Formed b → kinds b ≤ 2 → nesting b ≤ 64 → Near (toTerm d ys b)
+pub term-near : (d : ℕ) (ys : List ℕ) → GoodList d ys → d ≤ 4096 → (b : Row) → Formed b → ranks b ≤ 2 → nesting b ≤ 64 → Near (toTerm d ys b)
 unfolding toTerm
 term-near d ys g l b f k n =
     near-renumber (idTerm d ys) 0 b f k

@@ -11,9 +11,9 @@ use lib.Seq.{drop-cons, drop-append-add}
 use lib.Dec.{ltb}
 use borrow.Author.Tests.{ltb-true, ltb-false}
 use Rattle.term.specs.Word.{countOf, word}
-use Rattle.term.specs.Row.{Row, nothing, node, width, words, nesting, kinds, Formed}
+use Rattle.term.specs.Row.{Row, nothing, node, width, words, nesting, ranks, Formed}
 use Rattle.term.specs.Check.{IsTerm}
-use Rattle.term.specs.Walk.{Stands}
+use Rattle.term.specs.told.Walk.{Stands}
 use Rattle.term.specs.Part.{past, partEnd}
 use Rattle.term.proofs.Words.{count-word}
 
@@ -92,8 +92,8 @@ after-first n w xs ys more i below beside = go (ltb i (length xs)) refl
         moved n (ys ++ more) (w ∷ ((xs ++ ys) ++ more)) (i - length xs) (suc i)
         (ap (drop i) (append-assoc xs ys more) ∙ rw k at (drop-append-add xs (ys ++ more) (i - length xs))) (beside l)
 
-row-part : (n : ℕ) (f : Row) → Formed f → kinds f ≤ 2 → nesting f ≤ n → (at : ℕ) (more : List ℕ) → at < length (words f) → Begins n (words f ++ more) at
-unfolding words width Formed nesting kinds
+row-part : (n : ℕ) (f : Row) → Formed f → ranks f ≤ 2 → nesting f ≤ n → (at : ℕ) (more : List ℕ) → at < length (words f) → Begins n (words f ++ more) at
+unfolding words width Formed nesting ranks
 row-part n nothing p k l at more h = absurd (omega arith)
 row-part n (node x kids rest) p k l zero more h = (
   node x kids nothing,
@@ -120,6 +120,10 @@ part-begins ws i at h =
 
 pub stands-term : (ws : List ℕ) (f : Row) (after : List ℕ) → length (words f) ≤ 4096 → Stands 64 1 ws 0 f after → IsTerm (words f)
 stands-term ws f after l s = record { tree = f; one = s .wide; formed = s .formed; few = s .few; low = s .low; short = l; same = refl }
+
+-- what stands in words that are few enough for a term is
+pub stands-short : (n count : ℕ) (ws : List ℕ) (at : ℕ) (f : Row) (after : List ℕ) → Stands n count ws at f after → length ws ≤ 4096 → length (words f) ≤ 4096
+stands-short n count ws at f after s l = omega (arith, ap length (s .same), length-append (words f) after, length-drop at ws)
 
 -- where a part that stands ends
 pub part-ends : (n : ℕ) (ws : List ℕ) (f : Row) (after : List ℕ) → Stands n 1 ws 0 f after → partEnd ws ≡ length (words f)

@@ -8,19 +8,19 @@ use native.Mathlib.Nat.{le-max-left, le-max-right}
 use lib.Dec.{leb}
 use lib.ListN.{length, length-append}
 use borrow.Author.Tests.{leb-true, le-leb}
-use Rattle.term.specs.Word.{Head, symbol, abstraction, variable, pattern, kind, count, word, InTable}
-use Rattle.term.specs.Row.{Row, nothing, node, width, words, nesting, kinds, Formed, _⧺_}
+use Rattle.term.specs.Word.{Head, symbol, abstraction, variable, pattern, rank, count, word, InTable}
+use Rattle.term.specs.Row.{Row, nothing, node, width, words, nesting, ranks, Formed, _⧺_}
 use Rattle.term.specs.Renumber.{inside, renumberHead, renumber, namedHead, named}
 use Rattle.term.proofs.Words.{and-left, and-right, and-both}
 
 -- ---- the shape stays
 module _ (m : ℕ → ℕ → ℕ) where
-  pub kind-renumber : (e : ℕ) (h : Head) → kind (renumberHead m e h) ≡ kind h
-  unfolding renumberHead kind
-  kind-renumber e (symbol i c) = refl
-  kind-renumber e abstraction = refl
-  kind-renumber e (variable i) = refl
-  kind-renumber e (pattern i c) = refl
+  pub rank-renumber : (e : ℕ) (h : Head) → rank (renumberHead m e h) ≡ rank h
+  unfolding renumberHead rank
+  rank-renumber e (symbol i c) = refl
+  rank-renumber e abstraction = refl
+  rank-renumber e (variable i) = refl
+  rank-renumber e (pattern i c) = refl
 
   pub count-renumber : (e : ℕ) (h : Head) → count (renumberHead m e h) ≡ count h
   unfolding renumberHead count
@@ -52,10 +52,10 @@ module _ (m : ℕ → ℕ → ℕ) where
   nesting-renumber e nothing = refl
   nesting-renumber e (node h kids rest) = rw (nesting-renumber (inside h e) kids, nesting-renumber e rest)
 
-  pub kinds-renumber : (e : ℕ) (f : Row) → kinds (renumber m e f) ≡ kinds f
-  unfolding renumber kinds
-  kinds-renumber e nothing = refl
-  kinds-renumber e (node h kids rest) = rw (kind-renumber e h, kinds-renumber (inside h e) kids, kinds-renumber e rest)
+  pub ranks-renumber : (e : ℕ) (f : Row) → ranks (renumber m e f) ≡ ranks f
+  unfolding renumber ranks
+  ranks-renumber e nothing = refl
+  ranks-renumber e (node h kids rest) = rw (rank-renumber e h, ranks-renumber (inside h e) kids, ranks-renumber e rest)
 
   pub renumber-join : (e : ℕ) (f g : Row) → renumber m e (f ⧺ g) ≡ renumber m e f ⧺ renumber m e g
   unfolding renumber _⧺_

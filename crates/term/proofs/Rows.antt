@@ -7,7 +7,7 @@ use native.Mathlib.Omega.{arith}
 use native.Mathlib.Nat.{suc-add, zero-add, add-zero}
 use lib.ListN.{length, length-append}
 use Rattle.term.specs.Word.{Head, count, word, InTable, headOf}
-use Rattle.term.specs.Row.{Row, nothing, node, width, words, nesting, kinds, Formed, _⧺_, firsts, others, Got, gotNode, countO, read}
+use Rattle.term.specs.Row.{Row, nothing, node, width, words, nesting, ranks, Formed, _⧺_, firsts, others, Got, gotNode, countO, read}
 use Rattle.term.proofs.Words.{never, head-word, head-is, WordIs, word-head}
 
 -- ---- two rows side by side
@@ -41,10 +41,10 @@ unfolding _⧺_ nesting
 nesting-join nothing g = omega arith
 nesting-join (node h kids rest) g = omega (arith, nesting-join rest g)
 
-pub kinds-join : (f g : Row) → kinds (f ⧺ g) ≡ max (kinds f) (kinds g)
-unfolding _⧺_ kinds
-kinds-join nothing g = omega arith
-kinds-join (node h kids rest) g = omega (arith, kinds-join rest g)
+pub ranks-join : (f g : Row) → ranks (f ⧺ g) ≡ max (ranks f) (ranks g)
+unfolding _⧺_ ranks
+ranks-join nothing g = omega arith
+ranks-join (node h kids rest) g = omega (arith, ranks-join rest g)
 
 -- ---- the first trees and the others
 firsts-join : (f g : Row) → firsts (width f) (f ⧺ g) ≡ f

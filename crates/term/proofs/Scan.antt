@@ -12,7 +12,7 @@ use borrow.Author.Tests.{leb-true}
 use Rattle.term.specs.declared.check.Checked.{Checked}
 use Rattle.term.specs.declared.check.Checked.the-variants.{Good, Bad}
 use Rattle.term.specs.Word.{countOf, headOf}
-use Rattle.term.specs.Check.{Limits, kindOr, mayStand, scan, settle, check}
+use Rattle.term.specs.Check.{Limits, rankOr, mayStand, scan, settle, check}
 use Rattle.term.proofs.Words.{and-left, and-right}
 
 -- the first n of the array, the last first
@@ -64,7 +64,7 @@ push (suc m) left u v z h =
 pub depth-within : (limits : Limits) (at n w : ℕ) → mayStand limits at n w ≡ true → n ≤ limits .nesting
 unfolding mayStand
 depth-within limits at n w e =
-    leb-true n (limits .nesting) (and-left (leb n (limits .nesting)) (ltb at (limits .length)) (and-right (leb (kindOr 4 (headOf w)) (limits .kinds)) _ e))
+    leb-true n (limits .nesting) (and-left (leb n (limits .nesting)) (ltb at (limits .length)) (and-right (leb (rankOr 4 (headOf w)) (limits .ranks)) _ e))
 
 module _ (limits : Limits) (ws : List ℕ) where
   pub start : (left : List ℕ) → check limits ws ≡ scan limits 0 (settle (levels 1 (1 ∷ left))) ws

@@ -11,24 +11,24 @@ use lib.Dec.{leb, ltb}
 use borrow.Author.Tests.{lt-ltb, le-leb, leb-true, ltb-true}
 use Rattle.term.specs.declared.check.Checked.{Checked}
 use Rattle.term.specs.declared.check.Checked.the-variants.{Good, Bad}
-use Rattle.term.specs.Word.{Head, pick, kind, count, word, InTable, countOf, headOf}
-use Rattle.term.specs.Row.{Row, nothing, node, width, words, nesting, kinds, Formed}
-use Rattle.term.specs.Check.{Limits, IsTree, kindOr, mayStand, settle, scan, check}
+use Rattle.term.specs.Word.{Head, pick, rank, count, word, InTable, countOf, headOf}
+use Rattle.term.specs.Row.{Row, nothing, node, width, words, nesting, ranks, Formed}
+use Rattle.term.specs.Check.{Limits, IsTree, rankOr, mayStand, settle, scan, check}
 use Rattle.term.proofs.Words.{never, and-left, and-right, and-both, head-word, head-is, count-word}
 
 module _ (limits : Limits) where
-  -- a head of the table may stand where its kind, the nesting and the offset are within the limits
-  stands : (at n : ℕ) (h : Head) → InTable h → kind h ≤ limits .kinds → n ≤ limits .nesting → at < limits .length → mayStand limits at n (word h) ≡ true
+  -- a head of the table may stand where its rank, the nesting and the offset are within the limits
+  stands : (at n : ℕ) (h : Head) → InTable h → rank h ≤ limits .ranks → n ≤ limits .nesting → at < limits .length → mayStand limits at n (word h) ≡ true
   unfolding mayStand
   stands at n h t k d l =
       rw (head-word h t)
-      (and-both _ _ (le-leb (kind h) (limits .kinds) k) (and-both _ _ (le-leb n (limits .nesting) d) (lt-ltb at (limits .length) l)))
+      (and-both _ _ (le-leb (rank h) (limits .ranks) k) (and-both _ _ (le-leb n (limits .nesting) d) (lt-ltb at (limits .length) l)))
 
   -- the words of a row are passed over
-  passed : (f : Row) (at n : ℕ) (s t : List ℕ) → Formed f → kinds f ≤ limits .kinds → nesting f + length s ≤ limits .nesting
+  passed : (f : Row) (at n : ℕ) (s t : List ℕ) → Formed f → ranks f ≤ limits .ranks → nesting f + length s ≤ limits .nesting
       → at + length (words f) ≤ limits .length
       → scan limits at (settle ((width f + n) ∷ s)) (words f ++ t) ≡ scan limits (at + length (words f)) (settle (n ∷ s)) t
-  unfolding scan settle width words Formed nesting kinds
+  unfolding scan settle width words Formed nesting ranks
   passed nothing at n s t p k d l = rw (zero-add n, add-zero at)
   passed (node h kids rest) at n s t p k d l =
       let hk : suc (nesting kids) ≤ max (suc (nesting kids)) (nesting rest) = le-max-left _ _ in
@@ -53,10 +53,10 @@ module _ (limits : Limits) where
   Parsed : List ℕ → List ℕ → Type 0
   Parsed [] ws = ws ≡ []
   Parsed (k ∷ s) ws =
-      (f : Row) × (t : List ℕ) × Formed f × (kinds f ≤ limits .kinds) × (width f ≡ k) × (nesting f + length s ≤ limits .nesting) × (ws ≡ words f ++ t) × Parsed s t
+      (f : Row) × (t : List ℕ) × Formed f × (ranks f ≤ limits .ranks) × (width f ≡ k) × (nesting f + length s ≤ limits .nesting) × (ws ≡ words f ++ t) × Parsed s t
 
   unsettle : (s ws : List ℕ) → length s ≤ limits .nesting + 1 → Parsed (settle s) ws → Parsed s ws
-  unfolding Parsed settle words width Formed nesting kinds
+  unfolding Parsed settle words width Formed nesting ranks
   unsettle [] ws d p = p
   unsettle (zero ∷ s) ws d p = (nothing, ws, tt, omega arith, refl, omega arith, refl, unsettle s ws (omega arith) p)
   unsettle (suc k ∷ s) ws d p = p
@@ -76,23 +76,23 @@ module _ (limits : Limits) where
     head : Head
     is : word head ≡ w
     table : InTable head
-    allowed : kind head ≤ limits .kinds
+    allowed : rank head ≤ limits .ranks
     low : n ≤ limits .nesting
     near : at < limits .length
 
-module _ (limits : Limits) (few : limits .kinds ≤ 3) where
+module _ (limits : Limits) (few : limits .ranks ≤ 3) where
   stood : (at n w : ℕ) → mayStand limits at n w ≡ true → Stood limits at n w
   unfolding mayStand
   stood at n w e = found (headOf w) refl
     where
-      k : leb (kindOr 4 (headOf w)) (limits .kinds) ≡ true
+      k : leb (rankOr 4 (headOf w)) (limits .ranks) ≡ true
       k = and-left _ _ e
 
       found : (o : Option Head) → headOf w ≡ o → Stood limits at n w
-      found none q = absurd (let h : 4 ≤ limits .kinds = leb-true 4 (limits .kinds) (rw q at k) in omega arith)
+      found none q = absurd (let h : 4 ≤ limits .ranks = leb-true 4 (limits .ranks) (rw q at k) in omega arith)
       found (some h) q =
           let i = head-is w h q in
-          let r = and-right (leb (kindOr 4 (headOf w)) (limits .kinds)) _ e in
+          let r = and-right (leb (rankOr 4 (headOf w)) (limits .ranks)) _ e in
           record {
             head = h;
             is = i .0;
@@ -103,21 +103,21 @@ module _ (limits : Limits) (few : limits .kinds ≤ 3) where
           }
 
   -- what a scan that ends in Good went through
-  record Step (at k : ℕ) (s : List ℕ) (w : ℕ) (ws : List ℕ) : Type 0 where
+  record Passed (at k : ℕ) (s : List ℕ) (w : ℕ) (ws : List ℕ) : Type 0 where
     here : Stood limits at (length (k ∷ s)) w
     next : scan limits (at + 1) (settle (countOf w ∷ (k - 1) ∷ s)) ws ≡ Good
 
-  went : (at k : ℕ) (s : List ℕ) (w : ℕ) (ws : List ℕ) → scan limits at (k ∷ s) (w ∷ ws) ≡ Good → Step at k s w ws
+  went : (at k : ℕ) (s : List ℕ) (w : ℕ) (ws : List ℕ) → scan limits at (k ∷ s) (w ∷ ws) ≡ Good → Passed at k s w ws
   unfolding scan
   went at k s w ws g = picked (mayStand limits at (length (k ∷ s)) w) refl g
     where
       picked : (b : Bool) → mayStand limits at (length (k ∷ s)) w ≡ b
-          → pick b (scan limits (at + 1) (settle (countOf w ∷ (k - 1) ∷ s)) ws) (Bad at) ≡ Good → Step at k s w ws
+          → pick b (scan limits (at + 1) (settle (countOf w ∷ (k - 1) ∷ s)) ws) (Bad at) ≡ Good → Passed at k s w ws
       picked true e g = record { here = stood at (length (k ∷ s)) w e; next = g }
       picked false e g = never (cc)
 
   built : (at k : ℕ) (s : List ℕ) (w : ℕ) (ws : List ℕ) → 1 ≤ k → Stood limits at (length (k ∷ s)) w → Parsed limits (countOf w ∷ (k - 1) ∷ s) ws → Parsed limits (k ∷ s) (w ∷ ws)
-  unfolding Parsed words width Formed nesting kinds
+  unfolding Parsed words width Formed nesting ranks
   built at k s w ws o g p =
       let r = p .7 in
       let c : count (g .head) ≡ countOf w = sym (count-word (g .head) (g .table)) ∙ ap countOf (g .is) in (

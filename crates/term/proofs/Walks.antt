@@ -10,15 +10,15 @@ use native.Mathlib.Numerals.{add-one}
 use lib.ListN.{length, drop, getD, set, length-append, length-drop}
 use lib.Seq.{sets, drop-cons, drop-drop, drop-at}
 use borrow.Author.Tests.{eqb-true, eqb-false}
-use Rattle.term.specs.declared.renumber.Image.{Image}
-use Rattle.term.specs.declared.renumber.Image.the-variants.{Word, None}
-use Rattle.term.specs.declared.renumber.Step.{Step}
-use Rattle.term.specs.declared.renumber.Step.the-variants.{Done, Stuck}
+use Rattle.term.specs.declared.image.Image.{Image}
+use Rattle.term.specs.declared.image.Image.the-variants.{Word, None}
+use Rattle.term.specs.declared.renumber.Passed.{Passed}
+use Rattle.term.specs.declared.renumber.Passed.the-variants.{Done, Stuck}
 use Rattle.term.specs.Word
-use Rattle.term.specs.Word.{Head, kind, word, InTable, countOf, headOf}
-use Rattle.term.specs.Row.{Row, nothing, node, width, words, nesting, kinds, Formed}
+use Rattle.term.specs.Word.{Head, rank, word, InTable, countOf, headOf}
+use Rattle.term.specs.Row.{Row, nothing, node, width, words, nesting, ranks, Formed}
 use Rattle.term.specs.Renumber.{inside, renumberHead, renumber, namedHead, named}
-use Rattle.term.specs.Walk.{imageOf, sameImage, insideWord, Stands, RowTold, SameTold}
+use Rattle.term.specs.told.Walk.{imageOf, sameImage, insideWord, Stands, RowTold, SameTold}
 use Rattle.term.proofs.Words.{never, and-left, and-right, and-both, head-is, head-word, count-word}
 use Rattle.term.proofs.Rows.{words-unique}
 use Rattle.term.proofs.Renumbers.{length-renumber, count-renumber, inside-renumber}
@@ -32,7 +32,7 @@ pub record First (levels count : ℕ) (ws : List ℕ) (at : ℕ) (f : Row) (afte
   pub is : f ≡ node head children right
   pub word-is : word head ≡ getD ws at 0
   pub table : InTable head
-  pub low : kind head ≤ 2
+  pub low : rank head ≤ 2
   pub below : Stands (levels - 1) (countOf (getD ws at 0)) ws (at + 1) children (words right ++ after)
   pub beside : Stands levels (count - 1) ws (at + 1 + length (words children)) right after
   pub within : at < length ws
@@ -43,7 +43,7 @@ further at n ws x y e h = sym (drop-drop n at ws) ∙ rw e (drop-at x y n h)
 
 first-of : (levels count : ℕ) (ws : List ℕ) (at : ℕ) (h : Head) (kids rest : Row) (after : List ℕ) → at < length ws → Stands levels count ws at (node h kids rest) after
     → First levels count ws at (node h kids rest) after
-unfolding words width Formed nesting kinds
+unfolding words width Formed nesting ranks
 first-of levels count ws at h kids rest after l s =
     let c : drop at ws ≡ getD ws at 0 ∷ drop (suc at) ws = drop-cons ws at 0 l in
     let e : drop at ws ≡ (word h ∷ (words kids ++ words rest)) ++ after = s .same in
@@ -75,11 +75,11 @@ module _ (levels count : ℕ) (ws : List ℕ) (at : ℕ) (z : count ≡ 0 → �
       first-of levels count ws at h kids rest after (omega (arith, length-drop at ws, ap length (s .same))) s
 
   -- a head before its children and the trees to its right
-  pub put-first : (h : Head) (kids rest : Row) (after beyond : List ℕ) → headOf (getD ws at 0) ≡ some h → kind h ≤ 2 → 1 ≤ levels → at < length ws
+  pub put-first : (h : Head) (kids rest : Row) (after beyond : List ℕ) → headOf (getD ws at 0) ≡ some h → rank h ≤ 2 → 1 ≤ levels → at < length ws
       → Stands (levels - 1) (countOf (getD ws at 0)) ws (at + 1) kids after
       → Stands levels (count - 1) ws (at + 1 + length (words kids)) rest beyond
       → Stands levels count ws at (node h kids rest) beyond
-  unfolding words width Formed nesting kinds
+  unfolding words width Formed nesting ranks
   put-first h kids rest after beyond e k l w b s =
       let i = head-is (getD ws at 0) h e in
       let t : drop (at + 1 + length (words kids)) ws ≡ after = further (at + 1) (length (words kids)) ws (words kids) after (b .same) refl in
@@ -122,7 +122,7 @@ and-false-right false b e = refl
 
 module _ (m : ℕ → ℕ → ℕ) (e levels count : ℕ) (ws : List ℕ) (at : ℕ) (out : List ℕ) where
   pub row-done : count ≡ 0 → RowTold m e levels count ws at out out (Done at)
-  unfolding RowTold words width Formed nesting kinds renumber named
+  unfolding RowTold words width Formed nesting ranks renumber named
   row-done z =
       (nothing, drop at ws, record { formed = tt; few = omega arith; low = omega arith; wide = sym z; same = refl }, refl, omega arith, refl)
 
@@ -165,7 +165,7 @@ module _ (m : ℕ → ℕ → ℕ) (e levels count : ℕ) (ws : List ℕ) (at : 
 
       -- its children have images, and so the answer is that of the trees to its right
       pub row-more : (a : ℕ) → RowTold m (insideWord (getD ws at 0) e) (levels - 1) (countOf (getD ws at 0)) ws (at + 1) (set out at v) done (Done a)
-          → (last : List ℕ) (r : Step) → RowTold m e levels (count - 1) ws a done last r → RowTold m e levels count ws at out last r
+          → (last : List ℕ) (r : Passed) → RowTold m e levels (count - 1) ws a done last r → RowTold m e levels count ws at out last r
       unfolding RowTold named renumber words
       row-more a told last r rest = shown (imaged m e (getD ws at 0) v q) r rest
         where
@@ -179,7 +179,7 @@ module _ (m : ℕ → ℕ → ℕ) (e levels count : ℕ) (ws : List ℕ) (at : 
               rw (g .is)
               (and-false-right (namedHead m e (g .head)) _ (and-false-right (named m (inside (g .head) e) (g .children)) _ (rest (g .right) after b)))
 
-          shown : Imaged m e (getD ws at 0) v → (r : Step) → RowTold m e levels (count - 1) ws a done last r → RowTold m e levels count ws at out last r
+          shown : Imaged m e (getD ws at 0) v → (r : Passed) → RowTold m e levels (count - 1) ws a done last r → RowTold m e levels count ws at out last r
           shown i (Done b) rest =
               let n : named m (inside (i .head) e) (told .0) ≡ true = rw (inner i) at (told .3) in
               let k = renumber m (inside (i .head) e) (told .0) in
@@ -198,7 +198,7 @@ module _ (m : ℕ → ℕ → ℕ) (e levels count : ℕ) (ws : List ℕ) (at : 
 -- ---- images compared
 module _ (m n : ℕ → ℕ → ℕ) (e levels count : ℕ) (ws vs : List ℕ) (at : ℕ) where
   pub same-done : count ≡ 0 → SameTold m n e levels count ws vs at (Done at)
-  unfolding SameTold words width Formed nesting kinds renumber named
+  unfolding SameTold words width Formed nesting ranks renumber named
   same-done z = (nothing, nothing, drop at ws, drop at vs, none-stand ws, none-stand vs, refl, refl, refl, omega arith)
     where
       none-stand : (ws : List ℕ) → Stands levels count ws at nothing (drop at ws)
@@ -328,7 +328,7 @@ module _ (m n : ℕ → ℕ → ℕ) (e levels count : ℕ) (ws vs : List ℕ) (
 
         pub same-more : (a : ℕ) → 1 ≤ levels → at < length ws → at < length vs
             → SameTold m n (insideWord (getD ws at 0) e) (levels - 1) (countOf (getD ws at 0)) ws vs (at + 1) (Done a)
-            → (r : Step) → SameTold m n e levels (count - 1) ws vs a r → SameTold m n e levels count ws vs at r
+            → (r : Passed) → SameTold m n e levels (count - 1) ws vs a r → SameTold m n e levels count ws vs at r
         unfolding SameTold named renumber words
         same-more a l w o told r rest = shown alike r rest
           where
@@ -341,7 +341,7 @@ module _ (m n : ℕ → ℕ → ℕ) (e levels count : ℕ) (ws vs : List ℕ) (
                 ∙ ap (λ (k : ℕ). at + 1 + k)
                 (sym (length-renumber m (insideWord (getD ws at 0) e) (told .0)) ∙ ap (λ (x : Row). length (words x)) kids ∙ length-renumber n (insideWord (getD ws at 0) e) (told .1))
 
-            shown : Alike → (r : Step) → SameTold m n e levels (count - 1) ws vs a r → SameTold m n e levels count ws vs at r
+            shown : Alike → (r : Passed) → SameTold m n e levels (count - 1) ws vs a r → SameTold m n e levels count ws vs at r
             shown k (Done b) rest =
                 let below : Stands (levels - 1) (countOf (getD vs at 0)) vs (at + 1) (told .1) (told .3) = rw (k .counts) at (told .5) in
                 let beside : Stands levels (count - 1) ws (at + 1 + length (words (told .0))) (rest .0) (rest .2) = rw (told .9) at (rest .4) in

@@ -6,6 +6,7 @@ use Prim.Native.Nat.{ℕ, zero, suc, _+_, _*_, _/_, _%_, _≤_, _<_}
 use native.Mathlib.Omega.{arith}
 use lib.Dec.{leb, eqb}
 use borrow.Author.Tests.{eqb-true, eqb-false, leb-true, leb-false, eq-eqb, ne-eqb, le-leb, lt-leb}
+use Rattle.term.specs.Check.{rankOr}
 use Rattle.term.specs.Word.{Head, symbol, abstraction, variable, pattern, pick, kind, count, ident, word, InTable, kindOf, countOf, identOf, headWith, headOf}
 
 pub never : {A : Type 0} → _≡_ {A = ℕ} 0 1 → A
@@ -93,3 +94,8 @@ module _ (w : ℕ) where
 
 pub head-is : (w : ℕ) (h : Head) → headOf w ≡ some h → (word h ≡ w) × InTable h
 head-is w h e = rw e at (word-head w)
+
+-- the rank of a word, by its parts
+pub table-is : (w k c i r : ℕ) → k ≡ kindOf w → c ≡ countOf w → i ≡ identOf w → r ≡ rankOr 4 (headWith k c i) → r ≡ rankOr 4 (headOf w)
+unfolding headOf
+table-is w k c i r a b d e = rw (a, b, d) at e

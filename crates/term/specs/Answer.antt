@@ -26,3 +26,14 @@ placeOf Short = 0
 placeOf (Damaged at) = at
 placeOf Over = 0
 placeOf (NoRule at) = at
+
+-- what an answer says: document 01's number, and the place beside it
+pub record Answered : Type 0 where
+  pub number : ℕ
+  pub place : ℕ
+
+abbrev pub saying : (number place : ℕ) → Answered
+saying number place = record { number = number; place = place }
+
+abbrev pub answered : Answer → Answered
+answered a = saying (numberOf a) (placeOf a)

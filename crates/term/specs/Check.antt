@@ -8,25 +8,25 @@ use lib.ListN.{length}
 use lib.Dec.{leb, ltb}
 use Rattle.term.specs.declared.check.Checked.{Checked}
 use Rattle.term.specs.declared.check.Checked.the-variants.{Good, Bad}
-use Rattle.term.specs.Word.{Head, pick, kind, countOf, headOf}
-use Rattle.term.specs.Row.{Row, width, words, nesting, kinds, Formed}
+use Rattle.term.specs.Word.{Head, pick, rank, termRank, countOf, headOf}
+use Rattle.term.specs.Row.{Row, width, words, nesting, ranks, Formed}
 
--- what is asked of one tree in words: its kinds are 0 to `kinds`, its words and its nesting at most so many
+-- what is asked of one tree in words: its ranks are at most `ranks`, its words and its nesting at most so many
 pub record Limits : Type 0 where
-  pub kinds : ℕ
+  pub ranks : ℕ
   pub length : ℕ
   pub nesting : ℕ
 
 -- "A term has kinds 0 to 2, 1 to 4,096 words, nesting at most 64"
 abbrev pub termLimits : Limits
-termLimits = record { kinds = 2; length = 4096; nesting = 64 }
+termLimits = record { ranks = termRank; length = 4096; nesting = 64 }
 
 -- the words are those of one tree within the limits
 pub record IsTree (limits : Limits) (ws : List ℕ) : Type 0 where
   pub tree : Row
   pub one : width tree ≡ 1
   pub formed : Formed tree
-  pub few : kinds tree ≤ limits .kinds
+  pub few : ranks tree ≤ limits .ranks
   pub low : nesting tree ≤ limits .nesting
   pub short : length ws ≤ limits .length
   pub same : ws ≡ words tree
@@ -34,15 +34,15 @@ pub record IsTree (limits : Limits) (ws : List ℕ) : Type 0 where
 abbrev pub IsTerm : List ℕ → Type 0
 IsTerm ws = IsTree termLimits ws
 
--- the kind of a head, or a number that is no kind
-abbrev pub kindOr : ℕ → Option Head → ℕ
-kindOr k none = k
-kindOr k (some h) = kind h
+-- the rank of a head, or a number that is no rank
+abbrev pub rankOr : ℕ → Option Head → ℕ
+rankOr r none = r
+rankOr r (some h) = rank h
 
 -- a word may stand at an offset where so many levels are open
 unfoldable pub mayStand : Limits → ℕ → ℕ → ℕ → Bool
 mayStand limits at open-levels w =
-    leb (kindOr 4 (headOf w)) (limits .kinds) && (leb open-levels (limits .nesting) && ltb at (limits .length))
+    leb (rankOr 4 (headOf w)) (limits .ranks) && (leb open-levels (limits .nesting) && ltb at (limits .length))
 
 -- the open levels, the innermost first, each with the number of its trees that are still to begin; a level with none is closed
 unfoldable pub settle : List ℕ → List ℕ

@@ -3,5 +3,6 @@ pub mod Row
 pub mod Check
 pub mod Renumber
 pub mod Part
-pub mod Walk
 pub mod Answer
+pub mod Checked
+pub mod told

@@ -5,13 +5,13 @@ use mathlib.Core.List.{List, [], _∷_, _++_}
 use mathlib.Core.Option.{Option, none, some}
 use lib.ListN.{length, replicate}
 use lib.Dec.{leb, eqb}
-use Rattle.term.specs.declared.check.Checked.{Checked}
-use Rattle.term.specs.declared.check.Checked.the-variants.{Good, Bad}
+use lib.Seq.{sets}
 use Rattle.term.specs.declared.part.Written.{Written}
-use Rattle.term.specs.declared.part.Written.the-variants.{Words, NoBody, Over, Short}
-use Rattle.term.specs.Word.{pick, countOf}
-use Rattle.term.specs.Row.{Row, words, kinds, nesting, Got, read}
-use Rattle.term.specs.Check.{check, termLimits}
+use Rattle.term.specs.declared.part.Written.the-variants.{Words, NoBody, Short}
+use Rattle.term.specs.declared.renumber.Passed.{Passed}
+use Rattle.term.specs.declared.renumber.Passed.the-variants.{Done, Stuck}
+use Rattle.term.specs.Word.{pick, termRank, countOf}
+use Rattle.term.specs.Row.{Row, words, ranks, nesting, Got, read}
 use Rattle.term.specs.Renumber.{goodList, toTerm, toBody, idsWithin}
 
 -- how many words the first n trees take, by their counts alone; all where the words run out
@@ -26,9 +26,9 @@ partEnd ws = past 1 ws
 
 abbrev pub ofTerm : Got → Option Row
 ofTerm none = none
-ofTerm (some p) = pick (leb (kinds (p .0)) 2 && leb (nesting (p .0)) 64) (some (p .0)) none
+ofTerm (some p) = pick (leb (ranks (p .0)) termRank && (leb (nesting (p .0)) 64 && leb (length (words (p .0))) 4096)) (some (p .0)) none
 
--- the part of a term that the words begin with; none where no such part stands there
+-- the part of a term that the words begin with; none where no such part stands there, or it is no term by its nesting or its length
 unfoldable pub part : List ℕ → Option Row
 part ws = ofTerm (read 1 ws)
 
@@ -79,18 +79,26 @@ unfoldable pub bodyWords : ℕ → Option Row → List ℕ
 bodyWords room none = replicate room 0
 bodyWords room (some b) = padded room (words b)
 
-abbrev pub whole : Checked → Option Row → Option Row
-whole Good o = o
-whole (Bad at) o = none
+-- ---- a body in a place with so many levels left
+abbrev pub belowO : ℕ → ℕ → List ℕ → Got → Option Row
+belowO levels d ys none = none
+belowO levels d ys (some p) = pick (leb (ranks (p .0)) termRank && (leb (nesting (p .0)) levels && idsWithin d ys (p .0))) (some (toTerm d ys (p .0))) none
 
--- the body that the words are, where they are one term and ys is a list for d
-unfoldable pub givenBody : ℕ → List ℕ → List ℕ → Option Row
-givenBody d ys ws = pick (goodList d ys) (whole (check termLimits ws) (part ws)) none
+-- the term that it stands for; none where the words begin with no part so deep, or an id passes 65,535
+unfoldable pub termBelow : ℕ → ℕ → List ℕ → List ℕ → Option Row
+termBelow levels d ys ws = belowO levels d ys (read 1 ws)
 
-unfoldable pub termAnswer : ℕ → ℕ → List ℕ → Option Row → Written
-termAnswer room d ys none = NoBody
-termAnswer room d ys (some b) = pick (idsWithin d ys b) (written room (words (toTerm d ys b))) Over
+-- all that comes back
+pub record BelowOutcome : Type 0 where
+  pub said : Passed
+  pub out : List ℕ
 
-unfoldable pub termWords : ℕ → ℕ → List ℕ → Option Row → List ℕ
-termWords room d ys none = replicate room 0
-termWords room d ys (some b) = pick (idsWithin d ys b) (padded room (words (toTerm d ys b))) (replicate room 0)
+abbrev pub belowCame : Passed → List ℕ → BelowOutcome
+belowCame said out = record { said = said; out = out }
+
+abbrev pub wroteBelow : List ℕ → Option Row → BelowOutcome
+wroteBelow out none = belowCame Stuck (replicate (length out) 0)
+wroteBelow out (some t) = belowCame (Done (length (words t))) (sets out 0 (words t))
+
+unfoldable pub writeBelowGives : (levels d : ℕ) (list body out : List ℕ) → BelowOutcome
+writeBelowGives levels d list body out = wroteBelow out (termBelow levels d list body)

@@ -4,7 +4,7 @@ use mathlib.Core.Path.{_≡_}
 use mathlib.Core.List.{List, [], _∷_, _++_}
 use mathlib.Core.Option.{Option, none, some}
 use lib.ListN.{length}
-use Rattle.term.specs.Word.{Head, kind, count, word, InTable, headOf}
+use Rattle.term.specs.Word.{Head, rank, count, word, InTable, headOf}
 
 -- trees that stand side by side: nothing, or a node with its children, and the trees to its right. One tree is a row of width 1.
 pub data Row : Type 0 where
@@ -24,10 +24,10 @@ unfoldable pub nesting : Row → ℕ
 nesting nothing = 0
 nesting (node h kids rest) = max (suc (nesting kids)) (nesting rest)
 
--- the largest kind in a row
-unfoldable pub kinds : Row → ℕ
-kinds nothing = 0
-kinds (node h kids rest) = max (kind h) (max (kinds kids) (kinds rest))
+-- the largest rank in a row
+unfoldable pub ranks : Row → ℕ
+ranks nothing = 0
+ranks (node h kids rest) = max (rank h) (max (ranks kids) (ranks rest))
 
 -- every node is in the table, and has as many children as it counts
 unfoldable pub Formed : Row → Type 0

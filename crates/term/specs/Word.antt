@@ -21,6 +21,20 @@ kind abstraction = 1
 kind (variable i) = 2
 kind (pattern i c) = 3
 
+-- where a head may stand, in order: up to 1 it fixes what stands in a left side, up to 2 it is a term's, and 3 is a pattern variable's
+unfoldable pub rank : Head → ℕ
+rank (symbol i c) = 0
+rank abstraction = 1
+rank (variable i) = 2
+rank (pattern i c) = 3
+
+-- the largest rank of a head in a term, and in a side
+abbrev pub termRank : ℕ
+termRank = 2
+
+abbrev pub sideRank : ℕ
+sideRank = 3
+
 unfoldable pub count : Head → ℕ
 count (symbol i c) = c
 count abstraction = 1

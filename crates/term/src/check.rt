@@ -2,18 +2,20 @@
 ghost use mathlib.Core.Path.{_≡_};
 ghost use Prim.Native.Nat.{_≤_};
 ghost use Rattle.term.specs.Check.{check, mayStand, termLimits};
-use crate::word::COUNT;
-use crate::word::COUNTS;
-use crate::word::VARIABLE;
-use crate::word::table_kind;
+use crate::word::TERM_RANK;
+use crate::word::count_of;
+use crate::word::table_rank;
 
 // A term has at most so many words, and nests so deep.
 pub const MOST_WORDS: usize = 4096;
 
 pub const MOST_NESTING: usize = 64;
 
+// The same as a number of levels.
+pub const MOST_LEVELS: u32 = 64;
+
 // One level more than may be open: the level of a word that nests too deep.
-const LEVELS: usize = 65;
+const OPEN_LEVELS: usize = 65;
 
 pub enum Checked {
     Good,
@@ -21,10 +23,10 @@ pub enum Checked {
 }
 
 // Whether a word may stand at an offset where `depth` levels are open.
-fn may_stand(w: u32, at: usize, depth: usize, kinds: u32, most: usize, nesting: usize) -> bool
-    ensures { λ r. ⌜ r ≡ mayStand (record { kinds = kinds; length = most; nesting = nesting }) at depth w ⌝ }
+fn may_stand(w: u32, at: usize, depth: usize, ranks: u32, most: usize, nesting: usize) -> bool
+    ensures { λ r. ⌜ r ≡ mayStand (record { ranks = ranks; length = most; nesting = nesting }) at depth w ⌝ }
 {
-    if kinds < table_kind(w) {
+    if ranks < table_rank(w) {
         return false;
     }
     if nesting < depth {
@@ -34,11 +36,11 @@ fn may_stand(w: u32, at: usize, depth: usize, kinds: u32, most: usize, nesting: 
 }
 
 // The open levels lie in `left`, the innermost last, each with the number of its trees that are still to begin.
-pub fn check_tree(words: &[u32], kinds: u32, most: usize, nesting: usize) -> Checked
-    requires { ⌜ nesting ≤ 64 ⌝ }
-    ensures { λ r. ⌜ r ≡ check (record { kinds = kinds; length = most; nesting = nesting }) (now (words .entry)) ⌝ }
+pub fn check_tree(words: &[u32], ranks: u32, most: usize, nesting: usize) -> Checked
+    requires { ⌜ (ranks ≤ 3) × (nesting ≤ 64) ⌝ }
+    ensures { λ r. ⌜ r ≡ check (record { ranks = ranks; length = most; nesting = nesting }) (now (words .entry)) ⌝ }
 {
-    let mut left = [0u32; LEVELS];
+    let mut left = [0u32; OPEN_LEVELS];
     left[0] = 1;
     let mut depth = 1;
     let mut at = 0;
@@ -57,11 +59,12 @@ pub fn check_tree(words: &[u32], kinds: u32, most: usize, nesting: usize) -> Che
                 return Checked::Bad(at);
             }
             let w = words[at];
-            if !may_stand(w, at, depth, kinds, most, nesting) {
+            if !may_stand(w, at, depth, ranks, most, nesting) {
                 return Checked::Bad(at);
             }
+            let below = count_of(w);
             left[depth - 1] = k - 1;
-            left[depth] = w / COUNT % COUNTS;
+            left[depth] = below;
             depth = depth + 1;
             at = at + 1;
         }
@@ -72,5 +75,5 @@ pub fn check_tree(words: &[u32], kinds: u32, most: usize, nesting: usize) -> Che
 pub fn check_term(words: &[u32]) -> Checked
     ensures { λ r. ⌜ r ≡ check termLimits (now (words .entry)) ⌝ }
 {
-    check_tree(words, VARIABLE, MOST_WORDS, MOST_NESTING)
+    check_tree(words, TERM_RANK, MOST_WORDS, MOST_NESTING)
 }

@@ -1,26 +1,22 @@
-// The part of a term that a list of words begins with: where it ends, its body, and the term of a body.
+// The part of a term that a list of words begins with: where it ends, and its body.
 ghost use mathlib.Core.Path.{_≡_};
+ghost use Prim.Native.Nat.{_≤_};
 ghost use lib.ListN.{length};
-ghost use Rattle.term.specs.Part.{partEnd, bodyOf, hasBody, sameBody, bodyAnswer, bodyWords, givenBody, termAnswer, termWords};
-use crate::check::Checked;
-use crate::check::check_term;
+ghost use Rattle.term.specs.Part.{partEnd, bodyOf, hasBody, sameBody, bodyAnswer, bodyWords, belowCame, writeBelowGives};
+use crate::check::MOST_LEVELS;
+use crate::check::MOST_WORDS;
+use crate::image::Way;
+use crate::image::renumber_row;
 use crate::lent::clear;
 use crate::list::good_list;
-use crate::renumber::Step;
-use crate::renumber::Way;
-use crate::renumber::renumber_row;
+use crate::renumber::Passed;
 use crate::same::same_row;
-use crate::word::COUNT;
-use crate::word::COUNTS;
-
-// A part nests at most so deep.
-const LEVELS: u32 = 64;
+use crate::word::count_of;
 
 // How writing ended: so many words were written, or why none were.
 pub enum Written {
     Words(usize),
     NoBody,
-    Over,
     Short,
 }
 
@@ -35,7 +31,7 @@ pub fn part_end(words: &[u32]) -> usize
             return words.len();
         }
         let w = words[at];
-        left = (w / COUNT % COUNTS) as usize + (left - 1);
+        left = count_of(w) as usize + (left - 1);
         at = at + 1;
     }
     at
@@ -49,9 +45,24 @@ pub fn is_closed(words: &[u32], d: u32, list: &[u32]) -> bool
         return false;
     }
     let mut unused = [0u32; 1];
-    match renumber_row(Way::ToBody, d, list, 0, LEVELS, 1, words, 0, &mut unused) {
-        Step::Done(_) => true,
-        Step::Stuck => false,
+    match renumber_row(
+        Way::ToBody,
+        d,
+        list,
+        0,
+        MOST_LEVELS,
+        1,
+        words,
+        0,
+        &mut unused,
+    ) {
+        Passed::Done(n) => {
+            if MOST_WORDS < n {
+                return false;
+            }
+            true
+        }
+        Passed::Stuck => false,
     }
 }
 
@@ -64,44 +75,36 @@ pub fn write_body(words: &[u32], d: u32, list: &[u32], out: &mut [u32]) -> Writt
     if !good_list(d, list) {
         return Written::NoBody;
     }
-    match renumber_row(Way::ToBody, d, list, 0, LEVELS, 1, words, 0, out) {
-        Step::Done(n) => {
+    match renumber_row(Way::ToBody, d, list, 0, MOST_LEVELS, 1, words, 0, out) {
+        Passed::Done(n) => {
+            if MOST_WORDS < n {
+                clear(out);
+                return Written::NoBody;
+            }
             if n <= out.len() {
                 return Written::Words(n);
             }
             clear(out);
             Written::Short
         }
-        Step::Stuck => {
+        Passed::Stuck => {
             clear(out);
             Written::NoBody
         }
     }
 }
 
-// Writes the term that a body stands for under d abstractions with this list.
-pub fn write_term(body: &[u32], d: u32, list: &[u32], out: &mut [u32]) -> Written
-    ensures { λ r. ⌜ (r ≡ termAnswer (length (now (out .entry))) d (now (list .entry)) (givenBody d (now (list .entry)) (now (body .entry))))
-        × (now (out .exit) ≡ termWords (length (now (out .entry))) d (now (list .entry)) (givenBody d (now (list .entry)) (now (body .entry)))) ⌝ }
+// Writes the term that a body stands for in a place with so many levels left, where no id passes 65,535: Done with how many words it
+// has, also where not all have room.
+pub fn write_below(body: &[u32], d: u32, list: &[u32], levels: u32, out: &mut [u32]) -> Passed
+    requires { ⌜ (length (now list) ≤ 4) × (levels ≤ 64) ⌝ }
+    ensures { λ r. ⌜ belowCame r (now (out .exit)) ≡ writeBelowGives levels d (now (list .entry)) (now (body .entry)) (now (out .entry)) ⌝ }
 {
-    clear(out);
-    if !good_list(d, list) {
-        return Written::NoBody;
-    }
-    let Checked::Good = check_term(body) else {
-        return Written::NoBody;
-    };
-    match renumber_row(Way::ToTerm, d, list, 0, LEVELS, 1, body, 0, out) {
-        Step::Done(n) => {
-            if n <= out.len() {
-                return Written::Words(n);
-            }
+    match renumber_row(Way::ToTerm, d, list, 0, levels, 1, body, 0, out) {
+        Passed::Done(n) => Passed::Done(n),
+        Passed::Stuck => {
             clear(out);
-            Written::Short
-        }
-        Step::Stuck => {
-            clear(out);
-            Written::Over
+            Passed::Stuck
         }
     }
 }
@@ -131,11 +134,16 @@ pub fn same_body(
         other_list,
         other_words,
         0,
-        LEVELS,
+        MOST_LEVELS,
         1,
         0,
     ) {
-        Step::Done(_) => true,
-        Step::Stuck => false,
+        Passed::Done(n) => {
+            if MOST_WORDS < n {
+                return false;
+            }
+            true
+        }
+        Passed::Stuck => false,
     }
 }

@@ -3,15 +3,14 @@ ghost use mathlib.Core.Path.{_≡_};
 ghost use Prim.Native.Nat.{_+_, _≤_};
 ghost use lib.ListN.{length};
 ghost use Rattle.term.specs.Renumber.{idBody};
-ghost use Rattle.term.specs.Walk.{imageOf, sameImage, SameTold};
+ghost use Rattle.term.specs.told.Walk.{imageOf, sameImage, SameTold};
 ghost use Rattle.term.specs.Word.{headOf};
-use crate::renumber::Image;
-use crate::renumber::Step;
-use crate::renumber::Way;
+use crate::image::Image;
+use crate::image::Way;
+use crate::image::renumber_word;
+use crate::renumber::Passed;
 use crate::renumber::inside_word;
-use crate::renumber::renumber_word;
-use crate::word::COUNT;
-use crate::word::COUNTS;
+use crate::word::count_of;
 
 // Whether two words have the same image.
 fn same_word(d: u32, list: &[u32], other_d: u32, other_list: &[u32], e: u32, w: u32, x: u32) -> bool
@@ -39,7 +38,7 @@ pub fn same_row(
     levels: u32,
     count: u32,
     at: usize,
-) -> Step
+) -> Passed
     requires { ⌜ (length (now list) ≤ 4) × (length (now «other_list») ≤ 4) × (e + levels ≤ 64) ⌝ }
     ensures { λ r. ⌜ SameTold (idBody d (now (list .entry))) (idBody «other_d» (now («other_list» .entry))) e levels count (now (words .entry)) (now («other_words» .entry)) at r ⌝ }
 {
@@ -47,19 +46,20 @@ pub fn same_row(
     let mut left = count;
     while left != 0 {
         if levels == 0 {
-            return Step::Stuck;
+            return Passed::Stuck;
         }
         if words.len() <= a {
-            return Step::Stuck;
+            return Passed::Stuck;
         }
         if other_words.len() <= a {
-            return Step::Stuck;
+            return Passed::Stuck;
         }
         let w = words[a];
         if !same_word(d, list, other_d, other_list, e, w, other_words[a]) {
-            return Step::Stuck;
+            return Passed::Stuck;
         }
         let inner = inside_word(w, e);
+        let below = count_of(w);
         match same_row(
             d,
             list,
@@ -69,17 +69,17 @@ pub fn same_row(
             other_words,
             inner,
             levels - 1,
-            w / COUNT % COUNTS,
+            below,
             a + 1,
         ) {
-            Step::Done(b) => {
+            Passed::Done(b) => {
                 a = b;
                 left = left - 1;
             }
-            Step::Stuck => {
-                return Step::Stuck;
+            Passed::Stuck => {
+                return Passed::Stuck;
             }
         }
     }
-    Step::Done(a)
+    Passed::Done(a)
 }

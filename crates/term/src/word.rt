@@ -1,7 +1,7 @@
 // A word and its parts: word = kind * KIND + count * COUNT + id.
 ghost use mathlib.Core.Path.{_≡_};
-ghost use Rattle.term.specs.Word.{headOf};
-ghost use Rattle.term.specs.Check.{kindOr};
+ghost use Rattle.term.specs.Word.{kindOf, countOf, identOf, headWith, headOf};
+ghost use Rattle.term.specs.Check.{rankOr};
 
 pub const KIND: u32 = 16777216;
 
@@ -17,47 +17,83 @@ pub const VARIABLE: u32 = 2;
 
 pub const PATTERN: u32 = 3;
 
-// What no word of the table is.
-pub const NO_KIND: u32 = 4;
+// Where a word of the table may stand, in order.
+pub const SYMBOL_RANK: u32 = 0;
 
-// The kind of a word that the table has, or NO_KIND.
-pub fn table_kind(w: u32) -> u32
-    ensures { λ r. ⌜ r ≡ kindOr 4 (headOf w) ⌝ }
+pub const ABSTRACTION_RANK: u32 = 1;
+
+pub const VARIABLE_RANK: u32 = 2;
+
+pub const PATTERN_RANK: u32 = 3;
+
+// What no word of the table has.
+pub const NO_RANK: u32 = 4;
+
+// The largest rank of a term's word, and of a side's.
+pub const TERM_RANK: u32 = 2;
+
+pub const SIDE_RANK: u32 = 3;
+
+pub fn kind_of(w: u32) -> u32
+    ensures { λ r. ⌜ r ≡ kindOf w ⌝ }
 {
-    let k = w / KIND;
-    let c = w / COUNT % COUNTS;
-    let i = w % COUNT;
+    w / KIND
+}
+
+pub fn count_of(w: u32) -> u32
+    ensures { λ r. ⌜ r ≡ countOf w ⌝ }
+{
+    w / COUNT % COUNTS
+}
+
+pub fn id_of(w: u32) -> u32
+    ensures { λ r. ⌜ r ≡ identOf w ⌝ }
+{
+    w % COUNT
+}
+
+// The rank of the word with these parts, where the table has it, or NO_RANK.
+fn rank_with(k: u32, c: u32, i: u32) -> u32
+    ensures { λ r. ⌜ r ≡ rankOr 4 (headWith k c i) ⌝ }
+{
     if k == SYMBOL {
         if c <= 15 {
             if i <= 1023 {
-                return SYMBOL;
+                return SYMBOL_RANK;
             }
         }
-        return NO_KIND;
+        return NO_RANK;
     }
     if k == ABSTRACTION {
         if c == 1 {
             if i == 0 {
-                return ABSTRACTION;
+                return ABSTRACTION_RANK;
             }
         }
-        return NO_KIND;
+        return NO_RANK;
     }
     if k == VARIABLE {
         if c == 0 {
             if 1 <= i {
-                return VARIABLE;
+                return VARIABLE_RANK;
             }
         }
-        return NO_KIND;
+        return NO_RANK;
     }
     if k == PATTERN {
         if c <= 4 {
             if i <= 15 {
-                return PATTERN;
+                return PATTERN_RANK;
             }
         }
-        return NO_KIND;
+        return NO_RANK;
     }
-    NO_KIND
+    NO_RANK
+}
+
+// The rank of a word that the table has, or NO_RANK.
+pub fn table_rank(w: u32) -> u32
+    ensures { λ r. ⌜ r ≡ rankOr 4 (headOf w) ⌝ }
+{
+    rank_with(kind_of(w), count_of(w), id_of(w))
 }

@@ -21,12 +21,15 @@ abbrev μ-loop : tie.MeasureT-loop
 
 returns-3 : tie.Need-returns-3 Inv-loop μ-loop
 returns-3 c =
-    book-no-rule (c .before .before .before .before .before .before .before .before .before .args .words .now) (getD (c .before .before .before .before .before .before .before .before .before .args .words .now) 0 0) (c .before .before .before .before .loop .at) (c .before .before .before .before .loop .number) (c .before .before .before .before .loop .inv) (c .before .before .before .loop-test .taken) (sym (c .enum-told .given .1) ∙ c .before .before .sides-from .ensures)
+    let start = c .before .before .before .before .before .before .before .before .before in
+    let turn = c .before .before .before .before in
+    book-no-rule (start .args .words .now) (getD (start .args .words .now) 0 0) (turn .loop .at) (turn .loop .number) (turn .loop .inv) (c .before .before .before .loop-test .taken) (sym (c .enum-told .given .1) ∙ c .before .before .sides-from .ensures)
 
 mul-good-rule : tie.Need-mul-good-rule Inv-loop μ-loop
 mul-good-rule c =
-    let p = rule-placed (c .before .before .before .before .before .before .before .before .before .before .args .words .now) (c .before .before .before .before .before .loop .at) (c .before .sides .given .0 .0) (sym (c .before .sides .given .1) ∙ c .before .before .before .sides-from .ensures) in
-    omega (arith, p .left-first, p .right-next, p .within, c .before .before .before .before .before .before .before .before .before .before .good)
+    let start = c .before .before .before .before .before .before .before .before .before .before in
+    let p = rule-placed (start .args .words .now) (c .before .before .before .before .before .loop .at) (c .before .sides .given .0 .0) (sym (c .before .sides .given .1) ∙ c .before .before .before .sides-from .ensures) in
+    omega (arith, p .left-first, p .right-next, p .within, start .good)
 
 sub-good-rule : tie.Need-sub-good-rule Inv-loop μ-loop
 sub-good-rule c =
@@ -45,39 +48,54 @@ part-good-rule-end c =
 
 mul-good-rule-2 : tie.Need-mul-good-rule-2 Inv-loop μ-loop
 mul-good-rule-2 c =
-    let p = rule-placed (c .before .before .before .before .before .before .before .before .before .before .before .args .words .now) (c .before .before .before .before .before .before .loop .at) (c .before .before .sides .given .0 .0) (sym (c .before .before .sides .given .1) ∙ c .before .before .before .before .sides-from .ensures) in
-    omega (arith, p .left-first, p .right-next, p .within, c .before .before .before .before .before .before .before .before .before .before .before .good)
+    let start = c .before .before .before .before .before .before .before .before .before .before .before in
+    let far = c .before .before in
+    let p = rule-placed (start .args .words .now) (c .before .before .before .before .before .before .loop .at) (far .sides .given .0 .0) (sym (far .sides .given .1) ∙ c .before .before .before .before .sides-from .ensures) in
+    omega (arith, p .left-first, p .right-next, p .within, start .good)
 
 sub-good-rule-2 : tie.Need-sub-good-rule-2 Inv-loop μ-loop
 sub-good-rule-2 c =
-    let p = rule-placed (c .before .before .before .before .before .before .before .before .before .before .before .args .words .now) (c .before .before .before .before .before .before .loop .at) (c .before .before .sides .given .0 .0) (sym (c .before .before .sides .given .1) ∙ c .before .before .before .before .sides-from .ensures) in
+    let far = c .before .before in
+    let p = rule-placed (c .before .before .before .before .before .before .before .before .before .before .before .args .words .now) (c .before .before .before .before .before .before .loop .at) (far .sides .given .0 .0) (sym (far .sides .given .1) ∙ c .before .before .before .before .sides-from .ensures) in
     p .right-next
 
 part-good-rule-start-2 : tie.Need-part-good-rule-start-2 Inv-loop μ-loop
 part-good-rule-start-2 c =
-    let p = rule-placed (c .before .before .before .before .before .before .before .before .before .before .before .args .words .now) (c .before .before .before .before .before .before .loop .at) (c .before .before .sides .given .0 .0) (sym (c .before .before .sides .given .1) ∙ c .before .before .before .before .sides-from .ensures) in
+    let far = c .before .before in
+    let p = rule-placed (c .before .before .before .before .before .before .before .before .before .before .before .args .words .now) (c .before .before .before .before .before .before .loop .at) (far .sides .given .0 .0) (sym (far .sides .given .1) ∙ c .before .before .before .before .sides-from .ensures) in
     p .right-next
 
 part-good-rule-end-2 : tie.Need-part-good-rule-end-2 Inv-loop μ-loop
 part-good-rule-end-2 c =
-    let p = rule-placed (c .before .before .before .before .before .before .before .before .before .before .before .args .words .now) (c .before .before .before .before .before .before .loop .at) (c .before .before .sides .given .0 .0) (sym (c .before .before .sides .given .1) ∙ c .before .before .before .before .sides-from .ensures) in
+    let far = c .before .before in
+    let p = rule-placed (c .before .before .before .before .before .before .before .before .before .before .before .args .words .now) (c .before .before .before .before .before .before .loop .at) (far .sides .given .0 .0) (sym (far .sides .given .1) ∙ c .before .before .before .before .sides-from .ensures) in
     p .within
 
 returns-4 : tie.Need-returns-4 Inv-loop μ-loop
 returns-4 c =
-    book-bad-rule (c .before .before .before .before .before .before .before .before .before .before .before .before .before .before .args .words .now) (getD (c .before .before .before .before .before .before .before .before .before .before .before .before .before .before .args .words .now) 0 0) (c .before .before .before .before .before .before .before .before .before .loop .at) (c .before .before .before .before .before .before .before .before .before .loop .number) (c .before .before .before .before .before .before .before .before .before .loop .inv) (c .before .before .before .before .before .before .before .before .loop-test .taken) (c .before .before .before .before .before .sides .given .0 .0) (rule-placed (c .before .before .before .before .before .before .before .before .before .before .before .before .before .before .args .words .now) (c .before .before .before .before .before .before .before .before .before .loop .at) (c .before .before .before .before .before .sides .given .0 .0) (sym (c .before .before .before .before .before .sides .given .1) ∙ c .before .before .before .before .before .before .before .sides-from .ensures)) (sym (c .before .good-rule .ensures) ∙ not-true _ (c .if3 .taken))
+    let start = c .before .before .before .before .before .before .before .before .before .before .before .before .before .before in
+    let turn = c .before .before .before .before .before .before .before .before .before in
+    let far = c .before .before .before .before .before in
+    book-bad-rule (start .args .words .now) (getD (start .args .words .now) 0 0) (turn .loop .at) (turn .loop .number) (turn .loop .inv) (c .before .before .before .before .before .before .before .before .loop-test .taken) (far .sides .given .0 .0) (rule-placed (start .args .words .now) (turn .loop .at) (far .sides .given .0 .0) (sym (far .sides .given .1) ∙ c .before .before .before .before .before .before .before .sides-from .ensures)) (sym (c .before .good-rule .ensures) ∙ not-true _ (c .if3 .taken))
 
 loop-again : tie.Need-loop-again Inv-loop μ-loop
 loop-again c =
-    book-next (c .before .before .before .before .before .before .before .before .before .before .before .before .before .before .args .words .now) (getD (c .before .before .before .before .before .before .before .before .before .before .before .before .before .before .args .words .now) 0 0) (c .before .before .before .before .before .before .before .before .before .loop .at) (c .before .before .before .before .before .before .before .before .before .loop .number) (c .before .before .before .before .before .before .before .before .before .loop .inv) (c .before .before .before .before .before .before .before .before .loop-test .taken) (c .before .before .before .before .before .sides .given .0 .0) (rule-placed (c .before .before .before .before .before .before .before .before .before .before .before .before .before .before .args .words .now) (c .before .before .before .before .before .before .before .before .before .loop .at) (c .before .before .before .before .before .sides .given .0 .0) (sym (c .before .before .before .before .before .sides .given .1) ∙ c .before .before .before .before .before .before .before .sides-from .ensures)) (sym (c .before .good-rule .ensures) ∙ not-false _ (c .if3 .left))
+    let start = c .before .before .before .before .before .before .before .before .before .before .before .before .before .before in
+    let turn = c .before .before .before .before .before .before .before .before .before in
+    let far = c .before .before .before .before .before in
+    book-next (start .args .words .now) (getD (start .args .words .now) 0 0) (turn .loop .at) (turn .loop .number) (turn .loop .inv) (c .before .before .before .before .before .before .before .before .loop-test .taken) (far .sides .given .0 .0) (rule-placed (start .args .words .now) (turn .loop .at) (far .sides .given .0 .0) (sym (far .sides .given .1) ∙ c .before .before .before .before .before .before .before .sides-from .ensures)) (sym (c .before .good-rule .ensures) ∙ not-false _ (c .if3 .left))
 
 returns-5 : tie.Need-returns-5 Inv-loop μ-loop
 returns-5 c =
-    book-left-over (c .before .before .before .before .before .before .before .args .words .now) (getD (c .before .before .before .before .before .before .before .args .words .now) 0 0) (c .before .before .loop .at) (c .before .before .loop .number) (c .before .before .loop .inv) (c .before .loop-test .left) (c .if4 .taken)
+    let start = c .before .before .before .before .before .before .before in
+    let turn = c .before .before in
+    book-left-over (start .args .words .now) (getD (start .args .words .now) 0 0) (turn .loop .at) (turn .loop .number) (turn .loop .inv) (c .before .loop-test .left) (c .if4 .taken)
 
 returns-6 : tie.Need-returns-6 Inv-loop μ-loop
 returns-6 c =
-    book-good (c .before .before .before .before .before .before .before .args .words .now) (getD (c .before .before .before .before .before .before .before .args .words .now) 0 0) (c .before .before .loop .at) (c .before .before .loop .number) (c .before .before .loop .inv) (c .before .loop-test .left) (c .if4 .left)
+    let start = c .before .before .before .before .before .before .before in
+    let turn = c .before .before in
+    book-good (start .args .words .now) (getD (start .args .words .now) 0 0) (turn .loop .at) (turn .loop .number) (turn .loop .inv) (c .before .loop-test .left) (c .if4 .left)
 
 pub check-book-spec : {M : Type 1} → statement M
 check-book-spec =

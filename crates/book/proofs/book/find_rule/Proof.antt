@@ -7,7 +7,7 @@ use mathlib.Core.Bool.{Bool, true, false, _&&_}
 use mathlib.Core.List.{List}
 use Prim.Native.Nat.{ℕ, suc, _+_, _-_, _≤_, _<_}
 use lib.ListN.{length, drop, getD}
-use Rattle.book.specs.Found.{seek, sidesAt}
+use Rattle.book.specs.told.Found.{seek, sidesAt}
 use Rattle.book.proofs.Places.{rule-placed, find-empty, find-beyond, find-start, find-none, find-next, find-done}
 use Rattle.book.proofs.book.find_rule.Statement.{statement}
 use Rattle.book.proofs.book.find_rule.Tie as tie
@@ -27,15 +27,21 @@ loop-holds c = find-start _ _ (c .before .before .if1 .left) (c .if2 .left)
 
 returns-3 : tie.Need-returns-3 Inv-loop μ-loop
 returns-3 c =
-    find-none (c .before .before .before .before .before .before .before .before .before .args .words .now) (c .before .before .before .before .before .before .before .before .before .args .number) (c .before .before .before .before .loop .at) (c .before .before .before .before .loop .before) (c .before .before .before .before .loop .inv) (sym (c .enum-told .given .1) ∙ c .before .before .sides-from .ensures)
+    let start = c .before .before .before .before .before .before .before .before .before in
+    let turn = c .before .before .before .before in
+    find-none (start .args .words .now) (start .args .number) (turn .loop .at) (turn .loop .before) (turn .loop .inv) (sym (c .enum-told .given .1) ∙ c .before .before .sides-from .ensures)
 
 loop-again : tie.Need-loop-again Inv-loop μ-loop
 loop-again c =
-    find-next (c .before .before .before .before .before .before .before .before .before .before .args .words .now) (c .before .before .before .before .before .before .before .before .before .before .args .number) (c .before .before .before .before .before .loop .at) (c .before .before .before .before .before .loop .before) (c .before .before .before .before .loop-test .taken) (c .before .before .before .before .before .loop .inv) (c .before .sides .given .0 .0) (rule-placed (c .before .before .before .before .before .before .before .before .before .before .args .words .now) (c .before .before .before .before .before .loop .at) (c .before .sides .given .0 .0) (sym (c .before .sides .given .1) ∙ c .before .before .before .sides-from .ensures))
+    let start = c .before .before .before .before .before .before .before .before .before .before in
+    let turn = c .before .before .before .before .before in
+    find-next (start .args .words .now) (start .args .number) (turn .loop .at) (turn .loop .before) (c .before .before .before .before .loop-test .taken) (turn .loop .inv) (c .before .sides .given .0 .0) (rule-placed (start .args .words .now) (turn .loop .at) (c .before .sides .given .0 .0) (sym (c .before .sides .given .1) ∙ c .before .before .before .sides-from .ensures))
 
 returns-4 : tie.Need-returns-4 Inv-loop μ-loop
 returns-4 c =
-    find-done (c .before .before .before .before .before .before .before .args .words .now) (c .before .before .before .before .before .before .before .args .number) (c .before .before .loop .at) (c .before .before .loop .before) (c .before .loop-test .left) (c .before .before .loop .inv) _ (c .sides-from2 .ensures)
+    let start = c .before .before .before .before .before .before .before in
+    let turn = c .before .before in
+    find-done (start .args .words .now) (start .args .number) (turn .loop .at) (turn .loop .before) (c .before .loop-test .left) (turn .loop .inv) _ (c .sides-from2 .ensures)
 
 pub find-rule-spec : {M : Type 1} → statement M
 find-rule-spec =

@@ -15,7 +15,9 @@ returns : tie.Need-returns
 returns c = place-short (c .before .args .words .now) (c .before .args .at) (omega arith)
 
 returns-2 : tie.Need-returns-2
-returns-2 c = place-short (c .before .before .args .words .now) (c .before .before .args .at) (c .if2 .taken)
+returns-2 c =
+    let start = c .before .before in
+    place-short (start .args .words .now) (start .args .at) (c .if2 .taken)
 
 cast-left-size : tie.Need-cast-left-size
 cast-left-size c = let s = c .before .before .before .args in omega (arith, c .shared-slice-known .given (s .at + 1))
@@ -30,11 +32,13 @@ add-if3 c =
 
 returns-3 : tie.Need-returns-3
 returns-3 c =
-    place-over (c .before .before .before .before .before .args .words .now) (c .before .before .before .before .before .args .at) (omega (arith, c .before .before .before .if2 .left, c .before .before .before .before .if1 .left)) (c .if3 .taken)
+    let start = c .before .before .before .before .before in
+    place-over (start .args .words .now) (start .args .at) (omega (arith, c .before .before .before .if2 .left, c .before .before .before .before .if1 .left)) (c .if3 .taken)
 
 returns-4 : tie.Need-returns-4
 returns-4 c =
-    place-found (c .before .before .before .before .before .before .args .words .now) (c .before .before .before .before .before .before .args .at) (omega (arith, c .before .before .before .before .if2 .left, c .before .before .before .before .before .if1 .left)) (c .before .if3 .left)
+    let start = c .before .before .before .before .before .before in
+    place-found (start .args .words .now) (start .args .at) (omega (arith, c .before .before .before .before .if2 .left, c .before .before .before .before .before .if1 .left)) (c .before .if3 .left)
 
 pub sides-from-spec : {M : Type 1} → statement M
 sides-from-spec =

@@ -21,23 +21,28 @@ returns c = no-list _ _ _ _ (c .no-ids .ensures) (ids-many _ _ (c .before .if1 .
 
 returns-2 : tie.Need-returns-2 Inv-loop μ-loop
 returns-2 c =
-    no-list _ _ _ _ (c .no-ids2 .ensures) (ids-short _ _ (c .before .before .before .loop .inv .0) _ _ (c .before .before .before .loop .inv .1) (c .before .before .loop-test .taken) (c .before .if2 .taken))
+    let turn = c .before .before .before in
+    no-list _ _ _ _ (c .no-ids2 .ensures) (ids-short _ _ (turn .loop .inv .0) _ _ (turn .loop .inv .1) (c .before .before .loop-test .taken) (c .before .if2 .taken))
 
 returns-3 : tie.Need-returns-3 Inv-loop μ-loop
 returns-3 c =
-    no-list _ _ _ _ (c .no-ids3 .ensures) (ids-other _ _ (c .before .before .before .before .before .before .loop .inv .0) _ _ (c .before .before .before .before .before .before .loop .inv .1) (c .before .before .before .before .before .loop-test .taken) (c .before .before .before .before .if2 .left)
-    (λ e. c .before .if3 .taken (c .before .before .table-kind .ensures ∙ e)))
+    let turn = c .before .before .before .before .before .before in
+    no-list _ _ _ _ (c .no-ids3 .ensures) (ids-other _ _ (turn .loop .inv .0) _ _ (turn .loop .inv .1) (c .before .before .before .before .before .loop-test .taken) (c .before .before .before .before .if2 .left)
+    (λ e. c .before .if3 .taken (c .before .before .table-rank .ensures ∙ e)))
 
 array-write-ids : tie.Need-array-write-ids Inv-loop μ-loop
 array-write-ids c =
-    omega (arith, c .before .before .before .before .before .loop .inv .0, c .before .before .before .before .before .loop .inv .1 .0, c .before .before .before .before .loop-test .taken)
+    let turn = c .before .before .before .before .before .before in
+    omega (arith, turn .loop .inv .0, turn .loop .inv .1 .0, c .before .before .before .before .before .loop-test .taken)
 
 loop-again : tie.Need-loop-again Inv-loop μ-loop
-loop-again c = (
-  c .before .before .before .before .before .loop .inv .0,
-  ids-more _ _ (c .before .before .before .before .before .loop .inv .0) _ _ (c .before .before .before .before .before .loop .inv .1) (c .before .before .before .before .loop-test .taken) (c .before .before .before .if2 .left)
-      (sym (c .before .table-kind .ensures) ∙ c .if3 .left),
-)
+loop-again c =
+    let turn = c .before .before .before .before .before .before in (
+      turn .loop .inv .0,
+      rw (c .id-of .ensures)
+          (ids-more _ _ (turn .loop .inv .0) _ _ (turn .loop .inv .1) (c .before .before .before .before .before .loop-test .taken) (c .before .before .before .before .if2 .left)
+          (sym (c .before .before .table-rank .ensures) ∙ c .before .if3 .left)),
+    )
 
 returns-4 : tie.Need-returns-4 Inv-loop μ-loop
 returns-4 c = ids-ended _ _ (c .before .loop .inv .0) _ _ (c .before .loop .inv .1) (c .loop-test .left)
@@ -56,6 +61,7 @@ ids-of-spec =
     (λ c κs. search needs)
     (λ c κs. search needs)
     returns-3
+    (λ c κs. search needs)
     (λ c. search needs)
     array-write-ids
     (λ c. search needs)

@@ -1,7 +1,7 @@
 -- `ids::no_ids` meets its contract.
 use borrow.Author.Needs.{needs}
 use mathlib.Core.Path.{_≡_, refl}
-use Rattle.book.specs.Ids.{fourOf}
+use Rattle.book.specs.told.Ids.{fourOf}
 use Rattle.book.proofs.ids.no_ids.Statement.{statement}
 use Rattle.book.proofs.ids.no_ids.Tie as tie
 

@@ -13,11 +13,11 @@ use Rattle.book.proofs.rule.starts_with_symbol.Statement.{statement}
 use Rattle.book.proofs.rule.starts_with_symbol.Tie as tie
 
 returns : tie.Need-returns
-returns c = sym (rw (le-ltb 0 (length (c .before .args .words .now)) (omega (arith, c .if1 .taken))))
+returns c = sym (rw (le-ltb 0 (length (c .before .before .args .words .now)) (omega (arith, c .if1 .taken))))
 
 returns-2 : tie.Need-returns-2
 returns-2 c =
-    sym (rw (lt-ltb 0 (length (c .before .before .args .words .now)) (omega (arith, c .before .if1 .left))))
+    sym (rw (lt-ltb 0 (length (c .before .before .before .before .args .words .now)) (omega (arith, c .before .before .if1 .left)), ← c .kind-of .ensures))
 
 pub starts-with-symbol-spec : {M : Type 1} → statement M
 starts-with-symbol-spec =
@@ -25,4 +25,5 @@ starts-with-symbol-spec =
     (tie.spec
     returns
     (λ c. omega arith)
+    (λ c κs. search needs)
     returns-2)

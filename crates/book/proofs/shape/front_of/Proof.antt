@@ -1,7 +1,7 @@
 -- `shape::front_of` meets its contract: the side picks the case.
 use borrow.Author.Needs.{needs}
 use mathlib.Core.Path.{_≡_, _∙_}
-use Rattle.book.specs.Shape.{frontOf}
+use Rattle.book.specs.told.Shape.{frontOf}
 use Rattle.book.proofs.shape.front_of.Statement.{statement}
 use Rattle.book.proofs.shape.front_of.Tie as tie
 

@@ -19,11 +19,13 @@ abbrev μ-loop : tie.MeasureT-loop
 
 returns : tie.Need-returns Inv-loop μ-loop
 returns c =
-    occur-absent _ _ (c .before .before .before .loop .x) (c .before .before .before .loop .inv) (c .before .before .loop-test .taken) (sym (c .before .counted-in .ensures) ∙ c .if1 .taken)
+    let turn = c .before .before .before in
+    occur-absent _ _ (turn .loop .x) (turn .loop .inv) (c .before .before .loop-test .taken) (sym (c .before .counted-in .ensures) ∙ c .if1 .taken)
 
 loop-again : tie.Need-loop-again Inv-loop μ-loop
 loop-again c =
-    occur-next _ _ (c .before .before .before .loop .x) (c .before .before .before .loop .inv) (c .before .before .loop-test .taken) (λ e. c .if1 .left (c .before .counted-in .ensures ∙ e))
+    let turn = c .before .before .before in
+    occur-next _ _ (turn .loop .x) (turn .loop .inv) (c .before .before .loop-test .taken) (λ e. c .if1 .left (c .before .counted-in .ensures ∙ e))
 
 pub all-occur-spec : {M : Type 1} → statement M
 all-occur-spec =

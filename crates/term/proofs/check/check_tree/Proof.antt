@@ -12,14 +12,14 @@ use Rattle.term.proofs.check.check_tree.Statement.{statement}
 use Rattle.term.proofs.check.check_tree.Tie as tie
 
 abbrev limits : ℕ → ℕ → ℕ → Limits
-limits kinds most nesting = record { kinds = kinds; length = most; nesting = nesting }
+limits ranks most nesting = record { ranks = ranks; length = most; nesting = nesting }
 
 abbrev Inv-loop : tie.InvT-loop
-Inv-loop words kinds most nesting left₀ depth₀ at₀ left depth at =
-    (length left ≡ 65) × (depth ≤ 65) × (at ≤ length words) × Rest (limits kinds most nesting) words at depth left
+Inv-loop words ranks most nesting left₀ depth₀ at₀ left depth at =
+    (length left ≡ 65) × (depth ≤ 65) × (at ≤ length words) × Rest (limits ranks most nesting) words at depth left
 
 abbrev μ-loop : tie.MeasureT-loop
-μ-loop words kinds most nesting left₀ depth₀ at₀ left depth at = 2 * (length words - at) + depth
+μ-loop words ranks most nesting left₀ depth₀ at₀ left depth at = 2 * (length words - at) + depth
 
 loop-again : tie.Need-loop-again Inv-loop μ-loop
 loop-again c =
@@ -30,7 +30,7 @@ loop-again c =
 stood : (c : tie.Else5 Inv-loop μ-loop)
     → let q = c .before .before .before .before .before .before .loop in
     let a = c .before .before .before .before .before .before .before .before .args in
-    mayStand (limits (a .kinds) (a .most) (a .nesting)) (q .at) (q .depth) (getD (a .words .now) (q .at) 0) ≡ true
+    mayStand (limits (a .ranks) (a .most) (a .nesting)) (q .at) (q .depth) (getD (a .words .now) (q .at) 0) ≡ true
 stood c = sym (c .before .may-stand .ensures) ∙ not-false _ (c .if5 .left)
 
 deep-enough : (c : tie.Else5 Inv-loop μ-loop) → c .before .before .before .before .before .before .loop .depth ≤ 64
@@ -39,18 +39,19 @@ deep-enough c =
 
 loop-again-2 : tie.Need-loop-again-2 Inv-loop μ-loop
 loop-again-2 c =
-    let q = c .before .before .before .before .before .before .loop in
-    let a = c .before .before .before .before .before .before .before .before .args in
+    let q = c .before .before .before .before .before .before .before .loop in
+    let a = c .before .before .before .before .before .before .before .before .before .args in
     let l : length (q .left) ≡ 65 = q .inv .0 in (
       simp length-set (q .inv .0),
-      omega (arith, deep-enough c),
-      omega (arith, q .inv .2, c .before .before .before .if4 .left),
-      entered (limits (a .kinds) (a .most) (a .nesting)) (a .words .now) (q .at) (q .depth) (q .left) (q .inv .3)
-          (c .before .before .before .before .before .if1 .left)
-          (c .before .before .before .before .if3 .left)
-          (omega (arith, q .inv .2, c .before .before .before .if4 .left))
-          (stood c)
-          (omega (arith, deep-enough c)),
+      omega (arith, deep-enough (c .before)),
+      omega (arith, q .inv .2, c .before .before .before .before .if4 .left),
+      rw (c .count-of .ensures)
+          (entered (limits (a .ranks) (a .most) (a .nesting)) (a .words .now) (q .at) (q .depth) (q .left) (q .inv .3)
+          (c .before .before .before .before .before .before .if1 .left)
+          (c .before .before .before .before .before .if3 .left)
+          (omega (arith, q .inv .2, c .before .before .before .before .if4 .left))
+          (stood (c .before))
+          (omega (arith, deep-enough (c .before)))),
     )
 
 returns-4 : tie.Need-returns-4 Inv-loop μ-loop
@@ -79,12 +80,13 @@ check-tree-spec =
     (λ c. omega arith)
     (λ c κs. search needs)
     returns-4
+    (λ c κs. search needs)
     (λ c. omega arith)
     (λ c. omega arith)
     (λ c. omega arith)
     (λ c. omega arith)
     (λ c. omega arith)
-    (λ c. omega (arith, deep-enough c))
+    (λ c. omega (arith, deep-enough (c .before)))
     (λ c. omega arith)
     (λ c. omega arith)
     (λ c. omega arith)

@@ -1,4 +1,5 @@
 -- `part::part_end` meets its contract: what is left to pass gives the answer, at every turn.
+use borrow.Author.Needs.{needs}
 use native.Mathlib.Omega.{arith}
 use mathlib.Core.Path.{_≡_}
 use Prim.Native.Nat.{ℕ, _+_, _-_, _≤_}
@@ -19,8 +20,8 @@ returns c = let q = c .before .before .loop in passed-all _ (q .at) (q .left) (q
 
 loop-again : tie.Need-loop-again Inv-loop μ-loop
 loop-again c =
-    let q = c .before .before .before .loop in
-    (omega arith, passed-one _ (q .at) (q .left) (q .inv .1) (omega arith) (c .before .before .loop-test .taken))
+    let q = c .before .before .before .before .loop in
+    (omega arith, rw (c .count-of .ensures) (passed-one _ (q .at) (q .left) (q .inv .1) (omega arith) (c .before .before .before .loop-test .taken)))
 
 returns-2 : tie.Need-returns-2 Inv-loop μ-loop
 returns-2 c = let q = c .before .loop in passed-none _ (q .at) (q .left) (q .inv .1) (c .loop-test .left)
@@ -34,9 +35,10 @@ part-end-spec =
     returns
     (λ c. omega arith)
     (λ c. omega arith)
+    (λ c κs. search needs)
+    (λ c. omega (arith, c .count-of .ensures))
     (λ c. omega arith)
-    (λ c. omega arith)
-    (λ c. omega arith)
+    (λ c. omega (arith, c .count-of .ensures))
     (λ c. omega arith)
     (λ c. omega arith)
     loop-again

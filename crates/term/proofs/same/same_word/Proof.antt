@@ -1,7 +1,7 @@
 -- `same::same_word` meets its contract: the images pick the case.
 use borrow.Author.Needs.{needs}
 use mathlib.Core.Path.{_≡_, sym, _∙_}
-use Rattle.term.specs.Walk.{image, sameImage}
+use Rattle.term.specs.told.Walk.{image, sameImage}
 use Rattle.term.proofs.same.same_word.Statement.{statement}
 use Rattle.term.proofs.same.same_word.Tie as tie
 

@@ -5,8 +5,8 @@ use mathlib.Core.Bool.{Bool, true, false}
 use mathlib.Core.List.{List, _++_}
 use lib.Dec.{leb, eqb}
 use lib.ListN.{length, drop}
-use Rattle.term.specs.declared.renumber.Step.{Step}
-use Rattle.term.specs.declared.renumber.Step.the-variants.{Done, Stuck}
+use Rattle.term.specs.declared.renumber.Passed.{Passed}
+use Rattle.term.specs.declared.renumber.Passed.the-variants.{Done, Stuck}
 use Rattle.term.specs.Word.{pick, kindOf, countOf, identOf}
 use Rattle.term.specs.Row.{Row, width, words, nesting, Formed}
 use Rattle.book.specs.declared.shape.Side.{Side}
@@ -14,7 +14,7 @@ use Rattle.book.specs.declared.shape.Side.the-variants.{Left, Right}
 use Rattle.book.specs.declared.shape.Front.{Front}
 use Rattle.book.specs.declared.shape.Front.the-variants.{Past, Inside, Bad}
 use Rattle.book.specs.Rule.{leftShape, rightShape, listFor}
-use Rattle.book.specs.Ids.{listIn}
+use Rattle.book.specs.told.Ids.{listIn}
 
 unfoldable pub shapeOf : Side → ℕ → Row → Bool
 shapeOf Left = leftShape
@@ -34,6 +34,6 @@ pub record SideStands (levels count : ℕ) (ws : List ℕ) (at : ℕ) (f : Row) 
   pub wide : width f ≡ count
   pub same : drop at ws ≡ words f ++ after
 
-unfoldable pub SideTold : Side → ℕ → ℕ → ℕ → List ℕ → ℕ → Step → Type 0
+unfoldable pub SideTold : Side → ℕ → ℕ → ℕ → List ℕ → ℕ → Passed → Type 0
 SideTold side d levels count ws at r =
     (f : Row) (after : List ℕ) → SideStands levels count ws at f after → r ≡ pick (shapeOf side d f) (Done (at + length (words f))) Stuck

@@ -1,9 +1,9 @@
--- `renumber::id_within` meets its contract.
+-- `image::id_within` meets its contract.
 use borrow.Author.Needs.{needs}
 use borrow.Author.Tests.{le-leb, lt-leb}
 use Rattle.term.specs.Renumber.{within}
-use Rattle.term.proofs.renumber.id_within.Statement.{statement}
-use Rattle.term.proofs.renumber.id_within.Tie as tie
+use Rattle.term.proofs.image.id_within.Statement.{statement}
+use Rattle.term.proofs.image.id_within.Tie as tie
 
 returns : tie.Need-returns
 unfolding within

@@ -7,14 +7,14 @@ use mathlib.Core.Option.{Option, none, some}
 use lib.Dec.{leb, eqb}
 use lib.ListN.{length, drop}
 use lib.Seq.{sets}
-use Rattle.term.specs.declared.renumber.Way.{Way}
-use Rattle.term.specs.declared.renumber.Way.the-variants.{ToBody, ToTerm}
-use Rattle.term.specs.declared.renumber.Image.{Image}
-use Rattle.term.specs.declared.renumber.Image.the-variants.{Word, None}
-use Rattle.term.specs.declared.renumber.Step.{Step}
-use Rattle.term.specs.declared.renumber.Step.the-variants.{Done, Stuck}
-use Rattle.term.specs.Word.{Head, pick, kind, kindOf, word}
-use Rattle.term.specs.Row.{Row, width, words, kinds, nesting, Formed}
+use Rattle.term.specs.declared.image.Way.{Way}
+use Rattle.term.specs.declared.image.Way.the-variants.{ToBody, ToTerm}
+use Rattle.term.specs.declared.image.Image.{Image}
+use Rattle.term.specs.declared.image.Image.the-variants.{Word, None}
+use Rattle.term.specs.declared.renumber.Passed.{Passed}
+use Rattle.term.specs.declared.renumber.Passed.the-variants.{Done, Stuck}
+use Rattle.term.specs.Word.{Head, pick, rank, termRank, kindOf, word}
+use Rattle.term.specs.Row.{Row, width, words, ranks, nesting, Formed}
 use Rattle.term.specs.Renumber.{idBody, idTermWithin, renumberHead, renumber, namedHead, named}
 
 -- an id's image, 0 where it has none
@@ -25,7 +25,7 @@ image ToTerm d ys = idTermWithin d ys
 -- a word's image, where it is a term's word and its id has one
 unfoldable pub imageOf : (ℕ → ℕ → ℕ) → ℕ → Option Head → Image
 imageOf m e none = None
-imageOf m e (some h) = pick (leb (kind h) 2 && namedHead m e h) (Word (word (renumberHead m e h))) None
+imageOf m e (some h) = pick (leb (rank h) termRank && namedHead m e h) (Word (word (renumberHead m e h))) None
 
 -- two words have images, and the same
 unfoldable pub sameImage : Image → Image → Bool
@@ -40,20 +40,20 @@ insideWord w e = pick (eqb (kindOf w) 1) (e + 1) e
 -- `count` trees of a term, nesting at most so many levels, stand at an offset of the words
 pub record Stands (levels count : ℕ) (ws : List ℕ) (at : ℕ) (f : Row) (after : List ℕ) : Type 0 where
   pub formed : Formed f
-  pub few : kinds f ≤ 2
+  pub few : ranks f ≤ termRank
   pub low : nesting f ≤ levels
   pub wide : width f ≡ count
   pub same : drop at ws ≡ words f ++ after
 
 -- a row's images are written at the same offset; Stuck where no row stands there, or one of its ids has no image
-unfoldable pub RowTold : (ℕ → ℕ → ℕ) → ℕ → ℕ → ℕ → List ℕ → ℕ → List ℕ → List ℕ → Step → Type 0
+unfoldable pub RowTold : (ℕ → ℕ → ℕ) → ℕ → ℕ → ℕ → List ℕ → ℕ → List ℕ → List ℕ → Passed → Type 0
 RowTold m e levels count ws at out done (Done a) =
     (f : Row) × (after : List ℕ) × Stands levels count ws at f after × (named m e f ≡ true) × (a ≡ at + length (words f)) × (done ≡ sets out at (words (renumber m e f)))
 RowTold m e levels count ws at out done Stuck =
     (f : Row) (after : List ℕ) → Stands levels count ws at f after → named m e f ≡ false
 
 -- two rows have the same images; Stuck where they have not
-unfoldable pub SameTold : (ℕ → ℕ → ℕ) → (ℕ → ℕ → ℕ) → ℕ → ℕ → ℕ → List ℕ → List ℕ → ℕ → Step → Type 0
+unfoldable pub SameTold : (ℕ → ℕ → ℕ) → (ℕ → ℕ → ℕ) → ℕ → ℕ → ℕ → List ℕ → List ℕ → ℕ → Passed → Type 0
 SameTold m n e levels count ws vs at (Done a) =
     (f g : Row) × (after : List ℕ) × (beyond : List ℕ) × Stands levels count ws at f after × Stands levels count vs at g beyond
     × (named m e f ≡ true) × (named n e g ≡ true) × (renumber m e f ≡ renumber n e g) × (a ≡ at + length (words f))

@@ -1,11 +1,11 @@
--- `renumber::term_id` meets its contract: the tests pick the case of the id.
+-- `image::term_id` meets its contract: the tests pick the case of the id.
 use borrow.Author.Needs.{needs}
 use native.Mathlib.Omega.{arith}
 use mathlib.Core.Path.{_≡_, _∙_}
 use Prim.Native.Nat.{_-_}
 use Rattle.term.proofs.Images.{term-id-own, term-id-inner, term-id-outside}
-use Rattle.term.proofs.renumber.term_id.Statement.{statement}
-use Rattle.term.proofs.renumber.term_id.Tie as tie
+use Rattle.term.proofs.image.term_id.Statement.{statement}
+use Rattle.term.proofs.image.term_id.Tie as tie
 
 returns : tie.Need-returns
 returns c = term-id-own _ _ _ _ (c .if1 .taken) (omega (arith, c .before .before .pre))

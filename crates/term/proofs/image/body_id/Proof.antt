@@ -1,12 +1,12 @@
--- `renumber::body_id` meets its contract: the tests pick the case of the id.
+-- `image::body_id` meets its contract: the tests pick the case of the id.
 use borrow.Author.Needs.{needs}
 use native.Mathlib.Omega.{arith}
 use mathlib.Core.Path.{_≡_, sym, _∙_}
 use Prim.Native.Nat.{_-_, _≤_}
 use Rattle.term.proofs.Lists.{position-le}
 use Rattle.term.proofs.Images.{body-id-own, body-id-none, body-id-inner, body-id-outside}
-use Rattle.term.proofs.renumber.body_id.Statement.{statement}
-use Rattle.term.proofs.renumber.body_id.Tie as tie
+use Rattle.term.proofs.image.body_id.Statement.{statement}
+use Rattle.term.proofs.image.body_id.Tie as tie
 
 returns-2 : tie.Need-returns-2
 returns-2 c = body-id-none _ _ _ _ (c .before .before .before .if1 .left) (c .before .before .if2 .taken) (sym (c .before .position-of .ensures) ∙ c .if3 .taken)

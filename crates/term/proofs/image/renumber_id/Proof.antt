@@ -1,9 +1,9 @@
--- `renumber::renumber_id` meets its contract: the way picks the renumbering.
+-- `image::renumber_id` meets its contract: the way picks the renumbering.
 use borrow.Author.Needs.{needs}
 use mathlib.Core.Path.{_≡_, _∙_}
-use Rattle.term.specs.Walk.{image}
-use Rattle.term.proofs.renumber.renumber_id.Statement.{statement}
-use Rattle.term.proofs.renumber.renumber_id.Tie as tie
+use Rattle.term.specs.told.Walk.{image}
+use Rattle.term.proofs.image.renumber_id.Statement.{statement}
+use Rattle.term.proofs.image.renumber_id.Tie as tie
 
 returns : tie.Need-returns
 unfolding image

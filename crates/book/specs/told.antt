@@ -1,0 +1,5 @@
+-- What the functions below the operations tell: here so that their contracts can be said.
+pub mod Found
+pub mod Ids
+pub mod Shape
+pub mod Occurs
