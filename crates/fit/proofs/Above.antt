@@ -8,14 +8,14 @@ use native.Mathlib.Omega.{arith}
 use lib.Dec.{eqb}
 use lib.ListN.{length, length-append}
 use borrow.Author.Tests.{eqb-true, ne-eqb}
-use Rattle.term.specs.Word.{Head, symbol, abstraction, variable, pattern, word, kind, count, pick, InTable}
+use Rattle.term.specs.Word.{Head, symbol, abstraction, variable, pattern, word, rank, count, pick, InTable}
 use Rattle.term.specs.Row.{Row, nothing, node, width, Formed}
 use Rattle.term.specs.Check.{IsTree}
 use Rattle.term.specs.Renumber.{GoodList, inside, toBody}
 use Rattle.term.specs.Part.{isSome, sameO}
 use Rattle.term.proofs.Laws.{never, and-left, and-right, formed-node, count-pattern}
 use Rattle.book.specs.Rule.{sideLimits, idsOf, listFor, leftShape, counted}
-use Rattle.book.specs.Occurs.{countsAs}
+use Rattle.book.specs.told.Occurs.{countsAs}
 use Rattle.book.specs.Book.{Rule, ruleAt}
 use Rattle.book.proofs.Laws.{RuleFacts, left-symbol, left-abstraction, left-variable, left-pattern, counts-node, ids-counted}
 use Rattle.fit.specs.Left.{Left, end, hole, part, idsOr, leftOf, wide, occurs, GoodLeft}
@@ -107,7 +107,7 @@ unfolding GoodLeft
 good-hole vars d x ys rest g = g
 
 pub good-part : (vars d : ℕ) (h : Head) (kids rest : Left) → GoodLeft vars d (part h kids rest)
-    → InTable h × (wide kids ≡ count h) × (kind h ≤ 1) × GoodLeft vars (inside h d) kids × GoodLeft vars d rest
+    → InTable h × (wide kids ≡ count h) × (rank h ≤ 1) × GoodLeft vars (inside h d) kids × GoodLeft vars d rest
 unfolding GoodLeft
 good-part vars d h kids rest g = g
 

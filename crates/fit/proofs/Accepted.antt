@@ -13,15 +13,15 @@ use Rattle.term.specs.Word.{Head, symbol, abstraction, variable, pattern, count
 use Rattle.term.specs.Row.{Row, nothing, node, width, words, nesting, Formed, read}
 use Rattle.term.specs.Check.{Limits, IsTree, IsTerm}
 use Rattle.term.specs.Renumber.{goodList, GoodList}
-use Rattle.term.proofs.Laws.{never, and-left, and-right, read-words, width-nothing, width-node, nesting-nothing, nesting-node, formed-node, count-variable, kind-symbol, kind-abstraction, inside-symbol, inside-abstraction, good-true}
+use Rattle.term.proofs.Laws.{never, and-left, and-right, read-words, width-nothing, width-node, nesting-nothing, nesting-node, formed-node, count-variable, rank-symbol, rank-abstraction, inside-symbol, inside-abstraction, good-true}
 use Rattle.book.specs.Rule.{idBefore, idsOf, listFor, leftShape, sideLimits}
-use Rattle.book.specs.Occurs.{isPattern, occursIn, belowHead, belowVars}
+use Rattle.book.specs.told.Occurs.{isPattern, occursIn, belowHead, belowVars}
 use Rattle.book.specs.Book.{Rule, checkBook, ruleAt}
 use Rattle.book.proofs.Laws.{RuleFacts, book-rule, ids-nothing, ids-node, left-symbol, left-abstraction, left-variable, left-pattern, occurs-nothing, occurs-node, below-node}
 use Rattle.fit.specs.Left.{Left, end, hole, part, idsOr, leftOf, wide, deep, occurs, GoodLeft}
 use Rattle.fit.specs.Match.{rowOr, treeOf, leftIn}
 use Rattle.fit.specs.Lowest.{lowest}
-use Rattle.fit.proofs.Matching.{WithinTerm}
+use Rattle.fit.proofs.Matching.{tree-within}
 use Rattle.fit.proofs.Words.{GoodRule}
 use Rattle.fit.proofs.Lowest.{LowestIs, lowest-is}
 
@@ -122,12 +122,12 @@ good-left vars d (node (symbol i c) kids rest) p s b =
     let n = formed-node (symbol i c) kids rest p in
     let u = under-symbol d i c kids rest s in
     let v = below-both vars (symbol i c) kids rest b in
-    (n .table, wide-left d kids (u .0) ∙ n .full, omega (arith, kind-symbol i c), rw (inside-symbol i c d) (good-left vars d kids (n .below) (u .0) (v .0)), good-left vars d rest (n .beside) (u .1) (v .1))
+    (n .table, wide-left d kids (u .0) ∙ n .full, omega (arith, rank-symbol i c), rw (inside-symbol i c d) (good-left vars d kids (n .below) (u .0) (v .0)), good-left vars d rest (n .beside) (u .1) (v .1))
 good-left vars d (node abstraction kids rest) p s b =
     let n = formed-node abstraction kids rest p in
     let u = under-abstraction d kids rest s in
     let v = below-both vars abstraction kids rest b in
-    (n .table, wide-left (suc d) kids (u .0) ∙ n .full, omega (arith, kind-abstraction), rw (inside-abstraction d) (good-left vars (suc d) kids (n .below) (u .0) (v .0)), good-left vars d rest (n .beside) (u .1) (v .1))
+    (n .table, wide-left (suc d) kids (u .0) ∙ n .full, omega (arith, rank-abstraction), rw (inside-abstraction d) (good-left vars (suc d) kids (n .below) (u .0) (v .0)), good-left vars d rest (n .beside) (u .1) (v .1))
 good-left vars d (node (variable i) kids rest) p s b = absurd (no-variable d i kids rest s)
 good-left vars d (node (pattern i c) kids rest) p s b =
     let n = formed-node (pattern i c) kids rest p in
@@ -165,7 +165,4 @@ module _ (book : List ℕ) (accepted : checkBook book ≡ Good) where
   pub book-lowest : (ws : List ℕ) (i : IsTerm ws) → LowestIs book 0 (getD book 0 0) (i .tree) (lowest book 0 (getD book 0 0) (i .tree))
   book-lowest ws i =
       let e : 0 + getD book 0 0 ≡ getD book 0 0 = omega arith in
-      rw e at (lowest-is book (i .tree) (within i) (i .one) accepted-good (getD book 0 0) 0)
-    where
-      within : (i : IsTerm ws) → WithinTerm (i .tree)
-      within i = record { formed = i .formed; few = i .few; low = i .low; short = rw (← i .same) (i .short) }
+      rw e at (lowest-is book (i .tree) (tree-within ws i) (i .one) accepted-good (getD book 0 0) 0)

@@ -11,7 +11,7 @@ use Rattle.term.specs.Word.{pick}
 use Rattle.term.specs.Row.{Row, words}
 use Rattle.term.specs.Part.{sameWords}
 use Rattle.fit.specs.Fit.{Found, bodyThen, bothFound, bodyB, bodyIn, allSame}
-use Rattle.fit.specs.Told.{present, agreedFrom}
+use Rattle.fit.specs.told.Told.{present, agreedFrom}
 use Rattle.term.proofs.Laws.{never, and-left, and-right, and-both}
 
 -- ---- the first body of a variable in a list and more behind it

@@ -16,7 +16,7 @@ use Rattle.term.specs.Check.{check, termLimits}
 use Rattle.term.proofs.Laws.{and-left, and-right}
 use Rattle.fit.specs.Match.{bodyList, lengthList}
 use Rattle.fit.specs.Build.{startOf, wordsAt, allZero, goodLengths, checkBodies}
-use Rattle.fit.specs.BuildWalk.{Given}
+use Rattle.fit.specs.told.BuildWalk.{Given}
 use Rattle.fit.proofs.Lengths.{start-next, start-below}
 
 -- ---- no length at an unused variable

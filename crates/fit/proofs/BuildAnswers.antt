@@ -12,27 +12,32 @@ use Rattle.term.specs.declared.check.Checked.{Checked}
 use Rattle.term.specs.declared.check.Checked.the-variants.{Good, Bad}
 use Rattle.term.specs.declared.answer.Answer.{Answer}
 use Rattle.term.specs.declared.answer.Answer.the-variants as answer
-use Rattle.term.specs.declared.renumber.Step.the-variants as step
+use Rattle.term.specs.declared.renumber.Passed.the-variants as step
+use Rattle.term.specs.Answer.{answered}
 use Rattle.term.specs.Word.{pick}
-use Rattle.term.specs.Row.{Row, width, words, kinds, nesting, Formed}
+use Rattle.term.specs.Row.{Row, width, words, ranks, nesting, Formed}
 use Rattle.term.specs.Check.{check, termLimits}
 use Rattle.term.proofs.Laws.{good-tree, wrote, no-room}
+use Rattle.book.specs.declared.accept.Accepted.the-variants.{Sound, Refused}
 use Rattle.book.specs.Book.{Rule, checkBook, ruleAt}
-use Rattle.book.specs.Found.{sidesAt}
+use Rattle.book.specs.Accept.{accept}
+use Rattle.book.specs.told.Found.{sidesAt}
 use Rattle.book.specs.declared.book.Sides.{Sides}
 use Rattle.book.specs.declared.book.Found.the-variants as sides
 use Rattle.book.proofs.Laws.{book-rule, sides-rule}
 use Rattle.fit.specs.declared.fitting.Both.the-variants.{Done, Stuck}
 use Rattle.fit.specs.Fit.{build, IsBody}
 use Rattle.fit.specs.Match.{treeOf, leftIn}
-use Rattle.fit.specs.Told.{LeftStands}
-use Rattle.fit.specs.Build.{startOf, wordsAt, givenBodies, goodLengths, checkBodies, Built, refused, built, withinLimits, limited, buildLeft, buildAnswer, buildWords}
-use Rattle.fit.specs.BuildWalk.{Given, LeftBuilt, RuleBuilt}
+use Rattle.fit.specs.told.Told.{LeftStands}
+use Rattle.fit.specs.Build.{startOf, wordsAt, givenBodies, goodLengths, checkBodies, Built, refused, built, withinLimits, limited, buildLeft, buildAnswer, buildWords, buildLeftCame, buildLeftGives}
+use Rattle.fit.specs.told.BuildWalk.{Given, LeftBuilt, RuleBuilt}
 use Rattle.fit.proofs.Accepted.{tree-of}
 use Rattle.fit.proofs.Standing.{accepted-stands}
 use Rattle.fit.proofs.Lengths.{sum-lengths, given-good}
-use Rattle.fit.proofs.BuildRow.{wide-built, kinds-built, given-one}
+use Rattle.fit.proofs.BuildRow.{wide-built, ranks-built, given-one}
 use Rattle.fit.proofs.Limits.{limits-within, within-limits}
+use Rattle.fit.proofs.Asked.{sound-good, build-refused, build-unknown, build-wrong-lengths, build-wrong-body, build-asked}
+use Rattle.fit.proofs.Outcomes.{BuildAnswered, build-came}
 
 -- ---- a body that was judged good
 pub given-body : (bodies lengths : List ℕ) (x : ℕ) → check termLimits (wordsAt bodies lengths x) ≡ Good → IsBody (givenBodies bodies lengths x)
@@ -42,65 +47,56 @@ given-body bodies lengths x c =
     rw (tree-of termLimits (wordsAt bodies lengths x) i)
     (record { one = i .one; formed = i .formed; few = i .few; low = i .low; short = rw (i .same) at (i .short) })
 
-abbrev pub Answered : ℕ → Built → Answer → List ℕ → Type 0
-Answered room b a done = (a ≡ buildAnswer room b) × (done ≡ buildWords room b)
-
 -- zeros after a refusal
-refused-is : (room : ℕ) (b : Built) (a : Answer) (done : List ℕ) → b ≡ refused a → done ≡ replicate room 0 → Answered room b a done
+refused-is : (room : ℕ) (b : Built) (a : Answer) (done : List ℕ) → b ≡ refused a → done ≡ replicate room 0 → BuildAnswered room b a done
 unfolding buildAnswer buildWords
 refused-is room b a done e z = rw e (refl, z)
 
-built-is : (room : ℕ) (b : Built) (t : Row) (done : List ℕ) → b ≡ built t → length (words t) ≤ room → done ≡ sets (replicate room 0) 0 (words t) → Answered room b answer.Done done
+built-is : (room : ℕ) (b : Built) (t : Row) (done : List ℕ) → b ≡ built t → length (words t) ≤ room → done ≡ sets (replicate room 0) 0 (words t) → BuildAnswered room b answer.Done done
 unfolding buildAnswer buildWords
 built-is room b t done e h z = rw (e, le-leb (length (words t)) room h) (refl, wrote room (words t) done h z .1)
 
-short-is : (room : ℕ) (b : Built) (t : Row) (done : List ℕ) → b ≡ built t → room < length (words t) → done ≡ replicate room 0 → Answered room b answer.Short done
+short-is : (room : ℕ) (b : Built) (t : Row) (done : List ℕ) → b ≡ built t → room < length (words t) → done ≡ replicate room 0 → BuildAnswered room b answer.Short done
 unfolding buildAnswer buildWords
 short-is room b t done e h z = rw (e, lt-leb (length (words t)) room h) (refl, z ∙ no-room room (words t) h .1)
 
 module _ (book : List ℕ) (number : ℕ) (bodies lengths : List ℕ) (room : ℕ) (done : List ℕ) (z : done ≡ replicate room 0) where
-  pub bad-book : (at : ℕ) → checkBook book ≡ Bad at → Answered room (buildLeft book number bodies lengths) (answer.BadBook at) done
-  unfolding buildLeft
-  bad-book at e = refused-is room (buildLeft book number bodies lengths) (answer.BadBook at) done (rw e) z
+  pub bad-book : (a : Answer) → accept book ≡ Refused a → buildLeftCame (answered a) done ≡ buildLeftGives book number bodies lengths room
+  bad-book a e =
+      build-came book number bodies lengths room a done (refused-is room (buildLeft book number bodies lengths) a done (build-refused book number bodies lengths a e) z)
 
-  pub no-rule : checkBook book ≡ Good → ruleAt book number ≡ none → Answered room (buildLeft book number bodies lengths) (answer.NoRule number) done
-  unfolding buildLeft
-  no-rule g e = refused-is room (buildLeft book number bodies lengths) (answer.NoRule number) done (rw (g, e)) z
+  pub no-rule : accept book ≡ Sound → ruleAt book number ≡ none → buildLeftCame (answered (answer.NoRule number)) done ≡ buildLeftGives book number bodies lengths room
+  no-rule g e =
+      build-came book number bodies lengths room (answer.NoRule number) done
+      (refused-is room (buildLeft book number bodies lengths) (answer.NoRule number) done (build-unknown book number bodies lengths g e) z)
 
-module _ (book : List ℕ) (number : ℕ) (rule : Rule) (accepted : checkBook book ≡ Good) (found : ruleAt book number ≡ some rule) (bodies lengths : List ℕ) where
-  -- ---- what is asked after the book and the rule
-  bad-lengths : goodLengths (rule .vars) bodies lengths ≡ false → buildLeft book number bodies lengths ≡ refused (answer.BadTerm 16)
-  unfolding buildLeft
-  bad-lengths e = rw (accepted, found, e)
-
+module _ (book : List ℕ) (number : ℕ) (rule : Rule) (accepted : accept book ≡ Sound) (found : ruleAt book number ≡ some rule) (bodies lengths : List ℕ) where
   module _ (lengths-good : goodLengths (rule .vars) bodies lengths ≡ true) where
-    bad-body : (x : ℕ) → checkBodies bodies lengths 0 (rule .vars) ≡ Bad x → buildLeft book number bodies lengths ≡ refused (answer.BadTerm x)
-    unfolding buildLeft
-    bad-body x e = rw (accepted, found, lengths-good, e)
-
     module _ (bodies-good : checkBodies bodies lengths 0 (rule .vars) ≡ Good) where
+      good-book : checkBook book ≡ Good
+      good-book = sound-good book accepted
+
       asked : buildLeft book number bodies lengths ≡ limited (build (givenBodies bodies lengths) 0 (leftIn rule))
-      unfolding buildLeft
-      asked = rw (accepted, found, lengths-good, bodies-good)
+      asked = build-asked book number bodies lengths accepted rule found lengths-good bodies-good
 
       given : Given (rule .vars) bodies lengths
-      given = given-good (rule .vars) bodies lengths (book-rule book number rule accepted found .few) (sum-lengths (rule .vars) bodies lengths lengths-good .0) bodies-good
+      given = given-good (rule .vars) bodies lengths (book-rule book number rule good-book found .few) (sum-lengths (rule .vars) bodies lengths lengths-good .0) bodies-good
 
       abbrev pub result : Row
       result = build (givenBodies bodies lengths) 0 (leftIn rule)
 
       stands : LeftStands (rule .vars) 0 64 1 (rule .left) 0 (treeOf (rule .left)) []
       stands =
-          let s = accepted-stands book accepted number rule found in
+          let s = accepted-stands book good-book number rule found in
           record { good = s .good; low = omega (arith, s .low); wide = s .wide; same = s .same }
 
       pub one : width result ≡ 1
       unfolding leftIn
       one = wide-built (rule .vars) (givenBodies bodies lengths) (given-one (rule .vars) bodies lengths given) 0 (treeOf (rule .left)) (stands .good) ∙ stands .wide
 
-      pub few : kinds result ≤ 2
+      pub few : ranks result ≤ 2
       unfolding leftIn
-      few = kinds-built (rule .vars) (givenBodies bodies lengths) (λ x h. given-body bodies lengths x (given .terms x h) .few) 0 (treeOf (rule .left)) (stands .good)
+      few = ranks-built (rule .vars) (givenBodies bodies lengths) (λ x h. given-body bodies lengths x (given .terms x h) .few) 0 (treeOf (rule .left)) (stands .good)
 
       -- what is within the limits is built
       pub within-is : Formed result → nesting result ≤ 64 → length (words result) ≤ 4096 → buildLeft book number bodies lengths ≡ built result
@@ -145,7 +141,7 @@ module _ (vars : ℕ) (left bodies lengths : List ℕ) (room : ℕ) where
   pub rule-lengths : goodLengths vars bodies lengths ≡ false → (done : List ℕ) → done ≡ replicate room 0 → RuleBuilt vars left bodies lengths room (answer.BadTerm 16) done
   unfolding RuleBuilt
   rule-lengths e done z book number rule a f v l =
-      refused-is room (buildLeft book number bodies lengths) (answer.BadTerm 16) done (bad-lengths book number rule a f bodies lengths (rw v e)) z
+      refused-is room (buildLeft book number bodies lengths) (answer.BadTerm 16) done (build-wrong-lengths book number bodies lengths a rule f (rw v e)) z
 
   module _ (good : goodLengths vars bodies lengths ≡ true) where
     -- the lengths sum to the bodies
@@ -156,7 +152,7 @@ module _ (vars : ℕ) (left bodies lengths : List ℕ) (room : ℕ) where
         → RuleBuilt vars left bodies lengths room (answer.BadTerm x) done
     unfolding RuleBuilt
     rule-body x e done z book number rule a f v l =
-        refused-is room (buildLeft book number bodies lengths) (answer.BadTerm x) done (bad-body book number rule a f bodies lengths (rw v good) x (rw v (judged (Bad x) e))) z
+        refused-is room (buildLeft book number bodies lengths) (answer.BadTerm x) done (build-wrong-body book number bodies lengths a rule f (rw v good) x (rw v (judged (Bad x) e))) z
 
     module _ (e : startOf lengths 16 ≡ length bodies → Good ≡ checkBodies bodies lengths 0 vars) (out done : List ℕ) where
       pub rule-over : LeftBuilt 0 64 1 left 0 bodies lengths out 0 done Stuck → (last : List ℕ) → last ≡ replicate room 0 → RuleBuilt vars left bodies lengths room answer.Over last
@@ -179,15 +175,15 @@ module _ (vars : ℕ) (left bodies lengths : List ℕ) (room : ℕ) where
             short-is room (buildLeft book number bodies lengths) _ last (t .is) (omega (arith, h, t .long)) z
 
 -- the rule that was found in the book
-module _ (book : List ℕ) (number : ℕ) (accepted : checkBook book ≡ Good) (s : Sides) (found : sidesAt book number ≡ sides.Rule s) where
+module _ (book : List ℕ) (number : ℕ) (accepted : accept book ≡ Sound) (s : Sides) (found : sidesAt book number ≡ sides.Rule s) where
   pub few-vars : s .vars ≤ 16
   few-vars =
       let r = sides-rule book number s found in
-      omega (arith, r .2 .vars-is, book-rule book number (r .0) accepted (r .1) .few)
+      omega (arith, r .2 .vars-is, book-rule book number (r .0) (sound-good book accepted) (r .1) .few)
 
   pub of-rule : (bodies lengths : List ℕ) (room : ℕ) (a : Answer) (done : List ℕ) → RuleBuilt (s .vars) (take (s .right - s .left) (drop (s .left) book)) bodies lengths room a done
-      → Answered room (buildLeft book number bodies lengths) a done
+      → buildLeftCame (answered a) done ≡ buildLeftGives book number bodies lengths room
   unfolding RuleBuilt
   of-rule bodies lengths room a done told =
       let r = sides-rule book number s found in
-      told book number (r .0) accepted (r .1) (sym (r .2 .vars-is)) (sym (r .2 .left-is))
+      build-came book number bodies lengths room a done (told book number (r .0) accepted (r .1) (sym (r .2 .vars-is)) (sym (r .2 .left-is)))

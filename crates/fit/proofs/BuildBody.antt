@@ -11,19 +11,19 @@ use lib.ListN.{length, set, take, drop, length-drop}
 use lib.Seq.{sets, length-take-le, set-out, take-length, drop-length}
 use borrow.Author.Tests.{leb-true, leb-false}
 use Rattle.term.specs.declared.check.Checked.the-variants.{Good}
-use Rattle.term.specs.declared.renumber.Way.the-variants.{ToTerm}
-use Rattle.term.specs.declared.renumber.Step.{Step}
-use Rattle.term.specs.declared.renumber.Step.the-variants.{Done, Stuck}
+use Rattle.term.specs.declared.renumber.Passed.{Passed}
+use Rattle.term.specs.declared.renumber.Passed.the-variants.{Done, Stuck}
 use Rattle.term.specs.Word.{countOf, identOf}
 use Rattle.term.specs.Row.{Row, words, nesting, Formed}
 use Rattle.term.specs.Check.{check, termLimits}
 use Rattle.term.specs.Renumber.{toTerm, idsWithin}
-use Rattle.term.specs.Walk.{image, Stands, RowTold}
-use Rattle.term.proofs.Laws.{never, words-unique, term-keeps, within-formed, formed-within, image-wrote, image-stuck}
-use Rattle.book.specs.Ids.{listIn}
+use Rattle.term.specs.Part.{belowCame, writeBelowGives}
+use Rattle.term.specs.told.Walk.{Stands}
+use Rattle.term.proofs.Laws.{never, words-unique, term-keeps, within-formed, formed-within, below-wrote, below-none}
+use Rattle.book.specs.told.Ids.{listIn}
 use Rattle.fit.specs.Match.{treeOf}
 use Rattle.fit.specs.Build.{startOf, wordsAt, givenBodies}
-use Rattle.fit.specs.BuildWalk.{RowBuilt, BodyBuilt, HoleBuilt}
+use Rattle.fit.specs.told.BuildWalk.{RowBuilt, BodyBuilt, HoleBuilt}
 use Rattle.fit.proofs.Standing.{term-standing}
 use Rattle.fit.proofs.Lengths.{start-below}
 
@@ -78,7 +78,7 @@ module _ (d : ℕ) (ys : List ℕ) (levels : ℕ) (body out : List ℕ) (to : �
       words-unique b (treeOf body) after [] (s .formed) (t .formed) (s .wide ∙ sym (t .wide)) (sym (s .same) ∙ t .same) .0
 
   module _ (from : ℕ) (e : from ≡ length out - (length out - to)) (small : to ≤ 4096) (last : List ℕ) where
-    module _ (n : ℕ) (told : RowTold (image ToTerm d ys) 0 levels 1 body 0 (drop from out) last (Done n)) where
+    module _ (n : ℕ) (told : belowCame (Done n) last ≡ writeBelowGives levels d ys body (drop from out)) where
       record Wrote : Type 0 where
         is : idsWithin d ys (treeOf body) ≡ true
         formed : Formed (treeOf body)
@@ -88,7 +88,7 @@ module _ (d : ℕ) (ys : List ℕ) (levels : ℕ) (body out : List ℕ) (to : �
 
       wrote : check termLimits body ≡ Good → Wrote
       wrote c =
-          let t = image-wrote d ys levels body (drop from out) last n told in
+          let t = below-wrote levels d ys body (drop from out) last n told in
           let q : t .0 ≡ treeOf body = same-tree (t .0) (t .1) c (t .2) in
           record {
             is = rw q at (t .3);
@@ -119,12 +119,12 @@ module _ (d : ℕ) (ys : List ℕ) (levels : ℕ) (body out : List ℕ) (to : �
           shown : Wrote → RowBuilt levels out to done (toTerm d ys (treeOf body)) Stuck
           shown w = λ p q l. omega (arith, h, small, l, w .long, term-keeps d ys (treeOf body) .long)
 
-    pub part-over : RowTold (image ToTerm d ys) 0 levels 1 body 0 (drop from out) last Stuck → (done : List ℕ) → BodyBuilt d ys levels body out to done Stuck
+    pub part-over : belowCame Stuck last ≡ writeBelowGives levels d ys body (drop from out) → (done : List ℕ) → BodyBuilt d ys levels body out to done Stuck
     unfolding BodyBuilt
     part-over told done g c p n l =
         let t = term-standing body c in
         let s : Stands levels 1 body 0 (treeOf body) [] = record { formed = t .formed; few = t .few; low = omega (arith, n, term-keeps d ys (treeOf body) .deep); wide = t .wide; same = t .same } in
-        let f = image-stuck d ys levels body (drop from out) last told (treeOf body) [] s in
+        let f = below-none levels d ys body (drop from out) last told (treeOf body) [] s in
         let w = formed-within d ys (treeOf body) p in
         never (cc)
 
@@ -146,7 +146,7 @@ module _ (w : ℕ) (after : List ℕ) (d levels : ℕ) (bodies lengths out : Lis
   unfolding HoleBuilt
   hole-past h vars ys g x l k = absurd (omega (arith, h, g .sums, start-below lengths (identOf w + 1) 16 (omega (arith, x, g .few))))
 
-  pub hole-wrote : (zs : List ℕ) → listIn (countOf w) after ≡ some zs → (r : Step) → BodyBuilt d zs levels (wordsAt bodies lengths (identOf w)) out to done r
+  pub hole-wrote : (zs : List ℕ) → listIn (countOf w) after ≡ some zs → (r : Passed) → BodyBuilt d zs levels (wordsAt bodies lengths (identOf w)) out to done r
       → HoleBuilt w after d levels bodies lengths out to done r
   unfolding HoleBuilt BodyBuilt givenBodies
   hole-wrote zs e r told vars ys g x l k =

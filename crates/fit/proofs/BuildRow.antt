@@ -4,20 +4,20 @@ use mathlib.Core.List.{List, _++_}
 use Prim.Native.Nat.{ℕ, suc, _+_, _-_, _≤_, _<_}
 use native.Mathlib.Omega.{arith}
 use lib.ListN.{length}
-use Rattle.term.specs.declared.renumber.Step.the-variants as step
+use Rattle.term.specs.declared.renumber.Passed.the-variants as step
 use Rattle.term.specs.Word
 use Rattle.term.specs.Word.{Head, symbol, abstraction, variable, pattern, InTable}
-use Rattle.term.specs.Row.{Row, nothing, node, width, words, kinds, _⧺_}
+use Rattle.term.specs.Row.{Row, nothing, node, width, words, ranks, _⧺_}
 use Rattle.term.specs.Renumber.{inside, toTerm}
-use Rattle.term.proofs.Laws.{width-node, width-join, kinds-nothing, kinds-node, kinds-join, kind-symbol, kind-abstraction, words-nothing, abstraction-in-table, join-nothing, term-keeps, inside-symbol, inside-abstraction}
+use Rattle.term.proofs.Laws.{width-node, width-join, ranks-nothing, ranks-node, ranks-join, rank-symbol, rank-abstraction, words-nothing, abstraction-in-table, join-nothing, term-keeps, inside-symbol, inside-abstraction}
 use Rattle.book.specs.Rule.{idsOf}
 use Rattle.fit.specs.declared.fitting.Both.{Both}
 use Rattle.fit.specs.declared.fitting.Both.the-variants.{Done, Stuck}
 use Rattle.fit.specs.Left.{Left, end, hole, part, idsOr, leftOf}
 use Rattle.fit.specs.Fit.{build}
-use Rattle.fit.specs.Told.{LeftRow, LeftStands}
+use Rattle.fit.specs.told.Told.{LeftRow, LeftStands}
 use Rattle.fit.specs.Build.{wordsAt, givenBodies}
-use Rattle.fit.specs.BuildWalk.{Given, BothBuilt, LeftBuilt}
+use Rattle.fit.specs.told.BuildWalk.{Given, BothBuilt, LeftBuilt}
 use Rattle.fit.proofs.Basics.{tree-before}
 use Rattle.fit.proofs.FitRow.{length-split, LeftFirst, left-first}
 use Rattle.fit.proofs.Standing.{term-standing}
@@ -58,18 +58,18 @@ wide-built vars b one d (node (pattern x c) kids rest) p =
     let t = toTerm d (idsOr (idsOf kids)) (b x) in
     omega (arith, width-join t (build b d (leftOf rest)), term-keeps d (idsOr (idsOf kids)) (b x) .wide, one x (p .1), wide-built vars b one d rest (p .5), width-node (pattern x c) kids rest)
 
--- of a term's kinds
-pub kinds-built : (vars : ℕ) (b : ℕ → Row) → ((x : ℕ) → x < vars → kinds (b x) ≤ 2) → (d : ℕ) (p : Row) → LeftRow vars d p → kinds (build b d (leftOf p)) ≤ 2
+-- of a term's ranks
+pub ranks-built : (vars : ℕ) (b : ℕ → Row) → ((x : ℕ) → x < vars → ranks (b x) ≤ 2) → (d : ℕ) (p : Row) → LeftRow vars d p → ranks (build b d (leftOf p)) ≤ 2
 unfolding build leftOf LeftRow
-kinds-built vars b few d nothing p = omega (arith, kinds-nothing)
-kinds-built vars b few d (node (symbol i c) kids rest) p =
-    omega (arith, kinds-node (symbol i c) (build b (inside (symbol i c) d) (leftOf kids)) (build b d (leftOf rest)), kind-symbol i c, kinds-built vars b few (inside (symbol i c) d) kids (rw (inside-symbol i c d) (p .2)), kinds-built vars b few d rest (p .3))
-kinds-built vars b few d (node abstraction kids rest) p =
-    omega (arith, kinds-node abstraction (build b (inside abstraction d) (leftOf kids)) (build b d (leftOf rest)), kind-abstraction, kinds-built vars b few (inside abstraction d) kids (rw (inside-abstraction d) (p .1)), kinds-built vars b few d rest (p .2))
-kinds-built vars b few d (node (variable i) kids rest) p = absurd p
-kinds-built vars b few d (node (pattern x c) kids rest) p =
+ranks-built vars b few d nothing p = omega (arith, ranks-nothing)
+ranks-built vars b few d (node (symbol i c) kids rest) p =
+    omega (arith, ranks-node (symbol i c) (build b (inside (symbol i c) d) (leftOf kids)) (build b d (leftOf rest)), rank-symbol i c, ranks-built vars b few (inside (symbol i c) d) kids (rw (inside-symbol i c d) (p .2)), ranks-built vars b few d rest (p .3))
+ranks-built vars b few d (node abstraction kids rest) p =
+    omega (arith, ranks-node abstraction (build b (inside abstraction d) (leftOf kids)) (build b d (leftOf rest)), rank-abstraction, ranks-built vars b few (inside abstraction d) kids (rw (inside-abstraction d) (p .1)), ranks-built vars b few d rest (p .2))
+ranks-built vars b few d (node (variable i) kids rest) p = absurd p
+ranks-built vars b few d (node (pattern x c) kids rest) p =
     let t = toTerm d (idsOr (idsOf kids)) (b x) in
-    omega (arith, kinds-join t (build b d (leftOf rest)), term-keeps d (idsOr (idsOf kids)) (b x) .kind, few x (p .1), kinds-built vars b few d rest (p .5))
+    omega (arith, ranks-join t (build b d (leftOf rest)), term-keeps d (idsOr (idsOf kids)) (b x) .rank, few x (p .1), ranks-built vars b few d rest (p .5))
 
 -- each body is one tree
 pub given-one : (vars : ℕ) (bodies lengths : List ℕ) → Given vars bodies lengths → (x : ℕ) → x < vars → width (givenBodies bodies lengths x) ≡ 1

@@ -5,22 +5,22 @@ use mathlib.Core.Option.{some}
 use Prim.Native.Nat.{ℕ, _+_, _-_, _≤_, _<_}
 use native.Mathlib.Omega.{arith}
 use lib.ListN.{length, drop, getD, set}
-use Rattle.term.specs.declared.renumber.Step.the-variants as step
+use Rattle.term.specs.declared.renumber.Passed.the-variants as step
 use Rattle.term.specs.Word
 use Rattle.term.specs.Word.{Head, pattern, word, kindOf, countOf, identOf}
 use Rattle.term.specs.Row.{Row, nothing, node, width, words, nesting}
 use Rattle.term.specs.Renumber.{GoodList, inside, toTerm}
-use Rattle.term.specs.Walk.{insideWord}
+use Rattle.term.specs.told.Walk.{insideWord}
 use Rattle.term.proofs.Laws.{nesting-node, kind-word, count-word, ident-word, inside-is, count-pattern, ident-pattern}
-use Rattle.book.specs.Ids.{listIn}
+use Rattle.book.specs.told.Ids.{listIn}
 use Rattle.book.proofs.Laws.{ids-counted, list-found}
 use Rattle.fit.specs.declared.fitting.Both.{Both}
 use Rattle.fit.specs.declared.fitting.Both.the-variants.{Done, Stuck}
 use Rattle.fit.specs.Left.{leftOf}
 use Rattle.fit.specs.Fit.{build}
-use Rattle.fit.specs.Told.{LeftRow, LeftStands}
+use Rattle.fit.specs.told.Told.{LeftRow, LeftStands}
 use Rattle.fit.specs.Build.{givenBodies}
-use Rattle.fit.specs.BuildWalk.{HoleBuilt, BothBuilt, LeftBuilt}
+use Rattle.fit.specs.told.BuildWalk.{HoleBuilt, BothBuilt, LeftBuilt}
 use Rattle.fit.proofs.Basics.{single, Single}
 use Rattle.fit.proofs.FitRow.{words-tree}
 use Rattle.fit.proofs.Inner.{InnerRow, inner-row, head-at}

@@ -7,12 +7,12 @@ use native.Mathlib.Nat.{add-zero, add-suc, suc-add}
 use native.Mathlib.Numerals.{add-one}
 use lib.ListN.{length, set, length-append}
 use lib.Seq.{sets}
-use Rattle.term.specs.declared.renumber.Step.{Step}
-use Rattle.term.specs.declared.renumber.Step.the-variants.{Done, Stuck}
+use Rattle.term.specs.declared.renumber.Passed.{Passed}
+use Rattle.term.specs.declared.renumber.Passed.the-variants.{Done, Stuck}
 use Rattle.term.specs.Word.{Head, word, count, InTable}
 use Rattle.term.specs.Row.{Row, nothing, node, width, words, nesting, Formed, _⧺_}
 use Rattle.term.proofs.Laws.{words-nothing, nesting-nothing, nesting-node, formed-nothing, formed-node, node-formed, join-nothing-left, join-node, words-join, nesting-join, formed-join}
-use Rattle.fit.specs.BuildWalk.{RowBuilt}
+use Rattle.fit.specs.told.BuildWalk.{RowBuilt}
 use Rattle.fit.proofs.FitRow.{words-tree}
 
 pub sets-append : (us vs l : List ℕ) (i : ℕ) → sets l i (us ++ vs) ≡ sets (sets l i us) (i + length us) vs
@@ -41,7 +41,7 @@ module _ (levels : ℕ) (out : List ℕ) (to : ℕ) where
     row-first-over done over =
         λ p n l. over (formed-both f g p .0) (omega (arith, n, nesting-join f g)) (omega (arith, l, long-join f g))
 
-    pub row-then : (b : ℕ) → RowBuilt levels out to mid f (Done b) → (done : List ℕ) (r : Step) → RowBuilt levels mid b done g r → RowBuilt levels out to done (f ⧺ g) r
+    pub row-then : (b : ℕ) → RowBuilt levels out to mid f (Done b) → (done : List ℕ) (r : Passed) → RowBuilt levels mid b done g r → RowBuilt levels out to done (f ⧺ g) r
     row-then b a done (Done c) r = (
       formed-join f g (a .0) (r .0),
       omega (arith, a .1, r .1, nesting-join f g),
@@ -64,7 +64,7 @@ module _ (levels : ℕ) (out : List ℕ) (to : ℕ) where
     row-full done h = λ p n l. omega (arith, h, l, long-tree)
 
     -- a word before its children
-    pub row-node : InTable h → width kids ≡ count h → 1 ≤ levels → (done : List ℕ) (r : Step)
+    pub row-node : InTable h → width kids ≡ count h → 1 ≤ levels → (done : List ℕ) (r : Passed)
         → RowBuilt (levels - 1) (set out to (word h)) (to + 1) done kids r → RowBuilt levels out to done (node h kids nothing) r
     row-node t w l done (Done b) r = (
       node-formed h kids nothing (record { table = t; full = w; below = r .0; beside = formed-nothing }),

@@ -5,13 +5,14 @@ use mathlib.Core.Option.{Option, none, some}
 use Prim.Native.Nat.{ℕ}
 use lib.ListN.{replicate}
 use Rattle.term.specs.Answer.{numberOf, placeOf}
-use Rattle.term.specs.Word.{word, kind, count, ident, headOf, headWith}
-use Rattle.term.specs.Row.{words, width, kinds, nesting, read, firsts, others, _⧺_}
+use Rattle.term.specs.Word.{word, kind, rank, count, ident, headOf, headWith}
+use Rattle.term.specs.Row.{words, width, ranks, nesting, read, firsts, others, _⧺_}
 use Rattle.term.specs.Check.{check, scan, settle, mayStand}
 use Rattle.term.specs.Renumber.{position, listed, goodList, idTerm, idBody, inside, renumberHead, renumber, namedHead, named, closed, toTerm, toBody}
 use Rattle.term.specs.Part.{sameWords, padded}
 use Rattle.book.specs.Rule.{idsOf, leftShape, rootSymbol, rightShape, counted, oneCount, allOccur, noOther, goodLeft, goodRight, goodRule}
 use Rattle.book.specs.Book.{ruleOf, judge, checkBook, nthRule, ruleAt}
+use Rattle.book.specs.Accept.{accept}
 use Rattle.book.specs.Marked.{s, l, v, m, bookA, bookB}
 use Rattle.fit.specs.Left.{leftOf}
 use Rattle.fit.specs.Fit.{build, found, bodyIn, allSame, matching}
@@ -39,7 +40,7 @@ marked :
     × (matched bookB 0 (s 6 2 ∷ l ∷ v 1 ∷ l ∷ l ∷ v 1 ∷ []) ≡ none)
     × (matched bookB 0 (s 6 2 ∷ l ∷ v 2 ∷ l ∷ l ∷ v 3 ∷ []) ≡ some (v 2 ∷ []))
     × (matched bookB 0 (s 6 2 ∷ l ∷ v 2 ∷ l ∷ l ∷ v 2 ∷ []) ≡ none)
-unfolding s l v m bookA bookB word kind count ident headOf headWith words width kinds nesting read firsts others check scan settle mayStand position listed goodList idBody inside renumberHead renumber namedHead named closed toBody sameWords idsOf leftShape rootSymbol rightShape counted oneCount allOccur noOther goodLeft goodRight goodRule ruleOf judge checkBook nthRule ruleAt leftOf found bodyIn allSame matching treeOf leftIn bodyList matchRule
+unfolding s l v m bookA bookB word kind rank count ident headOf headWith words width ranks nesting read firsts others check scan settle mayStand position listed goodList idBody inside renumberHead renumber namedHead named closed toBody sameWords idsOf leftShape rootSymbol rightShape counted oneCount allOccur noOther goodLeft goodRight goodRule ruleOf judge checkBook accept nthRule ruleAt leftOf found bodyIn allSame matching treeOf leftIn bodyList matchRule
 marked = (refl, refl, refl, refl, refl, refl, refl, refl, refl, refl, refl, refl)
 
 -- ---- building: document 01's numbers with their places, and what is left in a slice of so many words
@@ -66,5 +67,5 @@ raised :
     × (answered bookA 1 (v 1 ∷ v 1 ∷ []) (1 ∷ 1 ∷ replicate 14 0) 3 ≡ (11, 16, replicate 3 0))
     × (answered bookA 3 (v 1 ∷ []) (sixteen 1) 3 ≡ (16, 3, replicate 3 0))
     × (answered [] 0 (v 1 ∷ []) (sixteen 1) 3 ≡ (12, 0, replicate 3 0))
-unfolding s l v m bookA bookB sixteen word kind count ident headOf headWith words width kinds nesting read firsts others _⧺_ check scan settle mayStand position listed goodList idTerm inside renumberHead renumber toTerm padded idsOf leftShape rootSymbol rightShape counted oneCount allOccur noOther goodLeft goodRight goodRule ruleOf judge checkBook nthRule ruleAt leftOf build treeOf leftIn startOf wordsAt givenBodies allZero goodLengths checkBodies largest withinLimits limited buildLeft buildAnswer buildWords
+unfolding s l v m bookA bookB sixteen word kind rank count ident headOf headWith words width ranks nesting read firsts others _⧺_ check scan settle mayStand position listed goodList idTerm inside renumberHead renumber toTerm padded idsOf leftShape rootSymbol rightShape counted oneCount allOccur noOther goodLeft goodRight goodRule ruleOf judge checkBook accept nthRule ruleAt leftOf build treeOf leftIn startOf wordsAt givenBodies allZero goodLengths checkBodies largest withinLimits limited buildLeft buildAnswer buildWords
 raised = (refl, refl, refl, refl, refl, refl, refl, refl, refl, refl, refl, refl)

@@ -13,13 +13,13 @@ use Rattle.term.specs.Row.{Row, words}
 use Rattle.term.specs.declared.part.Written.{Written}
 use Rattle.term.specs.declared.part.Written.the-variants.{Words}
 use Rattle.term.specs.Part.{bodyOf, sameBody, written, bodyAnswer, bodyWords}
-use Rattle.term.specs.declared.renumber.Step.the-variants as step
+use Rattle.term.specs.declared.renumber.Passed.the-variants as step
 use Rattle.term.proofs.Laws.{never, same-by-words, body-of, body-keeps, body-answer, body-words, answer-fits, written-fits, padded-fits}
-use Rattle.book.specs.Ids.{listIn, isList, fourOf}
+use Rattle.book.specs.told.Ids.{listIn, isList, fourOf}
 use Rattle.book.proofs.Laws.{told-list, told-none}
 use Rattle.fit.specs.declared.fitting.First.{First}
 use Rattle.fit.specs.Fit.{Found, bodyIn}
-use Rattle.fit.specs.Told.{slot, present, Seen, Knows, FirstIs, FirstTold, FirstSame, FirstWritten}
+use Rattle.fit.specs.told.Told.{slot, present, Seen, Knows, FirstIs, FirstTold, FirstSame, FirstWritten}
 
 -- what a variable that was met has
 met-seen : (left term table : List ℕ) (x : ℕ) → x < 16 → (l : Found) → Knows left term table l → (slot table x 0 ≡ 0 → ⊥) → Seen left term table l x (slot table x 0 - 1)

@@ -13,16 +13,16 @@ use lib.Seq.{drop-cons, drop-drop, drop-at}
 use borrow.Author.Tests.{eqb-true, eq-eqb, ne-eqb}
 use Rattle.term.specs.Word
 use Rattle.term.specs.Word.{Head, symbol, abstraction, variable, pattern, kind, kindOf, countOf, identOf, word, InTable}
-use Rattle.term.specs.Row.{Row, nothing, node, width, words, kinds, nesting, Formed}
+use Rattle.term.specs.Row.{Row, nothing, node, width, words, ranks, nesting, Formed}
 use Rattle.term.specs.Renumber.{inside, toBody}
-use Rattle.term.specs.Walk.{insideWord}
-use Rattle.term.proofs.Laws.{never, words-node, words-nothing, width-node, width-nothing, nesting-node, nesting-nothing, kinds-node, kinds-nothing, formed-node, node-formed, formed-nothing, count-word, kind-word, inside-is, count-symbol, count-abstraction, kind-symbol, kind-abstraction, kind-pattern, inside-symbol, inside-abstraction}
+use Rattle.term.specs.told.Walk.{insideWord}
+use Rattle.term.proofs.Laws.{never, words-node, words-nothing, width-node, width-nothing, nesting-node, nesting-nothing, ranks-node, ranks-nothing, formed-node, node-formed, formed-nothing, count-word, kind-word, inside-is, count-symbol, count-abstraction, kind-symbol, kind-abstraction, kind-pattern, inside-symbol, inside-abstraction}
 use Rattle.book.specs.Rule.{idsOf}
 use Rattle.fit.specs.declared.fitting.Both.{Both}
 use Rattle.fit.specs.declared.fitting.Both.the-variants.{Done, Stuck}
 use Rattle.fit.specs.Left.{Left, end, hole, part, idsOr, leftOf}
 use Rattle.fit.specs.Fit.{Found, bodyThen, bothFound, onlyIf, found, allSame}
-use Rattle.fit.specs.Told.{LeftRow, LeftStands, TermStands, Knows, agreedFrom, FitTold}
+use Rattle.fit.specs.told.Told.{LeftRow, LeftStands, TermStands, Knows, agreedFrom, FitTold}
 use Rattle.fit.proofs.Agreed.{both-agreed, left-disagreed, right-disagreed}
 
 pub further : (at n : ℕ) (ws x y : List ℕ) → drop at ws ≡ x ++ y → length x ≡ n → drop (at + n) ws ≡ y
@@ -118,14 +118,14 @@ module _ (count : ℕ) (term : List ℕ) (to : ℕ) (z : count ≡ 0 → ⊥) wh
         is = refl;
         alone = record {
           formed = node-formed h kids nothing (record { table = f .table; full = f .full; below = f .below; beside = formed-nothing });
-          few = omega (arith, s .few, kinds-node h kids rest, kinds-node h kids nothing, kinds-nothing);
+          few = omega (arith, s .few, ranks-node h kids rest, ranks-node h kids nothing, ranks-nothing);
           low = omega (arith, s .low, nesting-node h kids rest, nesting-node h kids nothing, nesting-nothing);
           wide = width-node h kids nothing ∙ ap suc width-nothing;
           same = e;
         };
         beside = record {
           formed = f .beside;
-          few = omega (arith, s .few, kinds-node h kids rest);
+          few = omega (arith, s .few, ranks-node h kids rest);
           low = omega (arith, s .low, nesting-node h kids rest);
           wide = omega (arith, s .wide, width-node h kids rest);
           same = further to (length (words (node h kids nothing))) term (words (node h kids nothing)) (words rest ++ beyond) e refl;

@@ -9,7 +9,7 @@ use lib.Dec.{eqb}
 use lib.ListN.{length}
 use borrow.Author.Tests.{eqb-true, eqb-false, eq-eqb, ne-eqb}
 use Rattle.term.specs.Word.{Head, word, pick}
-use Rattle.term.specs.Row.{Row, nothing, node, width, words, kinds, nesting, Formed, _⧺_}
+use Rattle.term.specs.Row.{Row, nothing, node, width, words, ranks, nesting, Formed, _⧺_}
 use Rattle.term.specs.Renumber.{GoodList, inside, toTerm, toBody}
 use Rattle.term.proofs.Laws.{never, body-term, term-body, term-keeps, formed-node}
 use Rattle.fit.specs.Left.{Left, end, hole, part, GoodLeft}

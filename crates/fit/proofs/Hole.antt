@@ -5,22 +5,22 @@ use mathlib.Core.List.{List, [], _∷_, _++_}
 use mathlib.Core.Option.{Option, none, some}
 use Prim.Native.Nat.{ℕ, zero, suc, _+_, _-_, _*_, _≤_, _<_}
 use native.Mathlib.Omega.{arith}
-use lib.ListN.{length, length-append, drop, getD}
+use lib.ListN.{length, length-append, length-drop, drop, getD}
 use borrow.Author.Tests.{eq-eqb}
 use Rattle.term.specs.Word.{Head, symbol, abstraction, variable, pattern, kind, kindOf, countOf, identOf, word, InTable}
 use Rattle.term.specs.Row.{Row, nothing, node, width, words, Formed}
 use Rattle.term.specs.Renumber.{GoodList, toBody}
 use Rattle.term.specs.Part.{bodyOf, sameWords, partEnd}
-use Rattle.term.specs.Walk.{Stands}
-use Rattle.term.proofs.Laws.{never, kind-word, count-word, ident-word, kind-symbol, kind-abstraction, count-pattern, ident-pattern, abstraction-in-table, body-of, body-stands, part-ends, words-same}
+use Rattle.term.specs.told.Walk.{Stands}
+use Rattle.term.proofs.Laws.{never, kind-word, count-word, ident-word, kind-symbol, kind-abstraction, count-pattern, ident-pattern, abstraction-in-table, body-of, body-stands, stands-short, part-ends, words-same}
 use Rattle.book.specs.Rule.{idsOf}
-use Rattle.book.specs.Ids.{listIn}
+use Rattle.book.specs.told.Ids.{listIn}
 use Rattle.book.proofs.Laws.{ids-counted, list-found}
 use Rattle.fit.specs.declared.fitting.Both.{Both}
 use Rattle.fit.specs.declared.fitting.Both.the-variants.{Done, Stuck}
 use Rattle.fit.specs.Left.{Left, end, hole, part, idsOr, leftOf}
 use Rattle.fit.specs.Fit.{Found, bodyThen, found, bodyIn}
-use Rattle.fit.specs.Told.{LeftRow, LeftStands, TermStands, slot, Knows, recorded, FirstSame, agreedFrom, FitTold}
+use Rattle.fit.specs.told.Told.{LeftRow, LeftStands, TermStands, slot, Knows, recorded, FirstSame, agreedFrom, FitTold, VariableTold, sharedEnds, SharesTold}
 use Rattle.fit.proofs.Basics.{single, Single}
 use Rattle.fit.proofs.FitRow.{words-tree}
 use Rattle.fit.proofs.Inner.{head-at}
@@ -71,7 +71,7 @@ found-hole : (d x : ℕ) (ys : List ℕ) (g : Head) (ts : Row) → found d (hole
 unfolding found
 found-hole d x ys g ts = refl
 
-module _ (vars d levels : ℕ) (left : List ℕ) (at : ℕ) (term : List ℕ) (to : ℕ) (table : List ℕ) (la : at < length left) (lt : to < length term) (three : kindOf (getD left at 0) ≡ 3) where
+module _ (vars d levels : ℕ) (left : List ℕ) (at : ℕ) (term : List ℕ) (to : ℕ) (table : List ℕ) (la : at < length left) (lt : to < length term) (short : length term ≤ 4096) (three : kindOf (getD left at 0) ≡ 3) where
   record Here (p : Row) (after : List ℕ) (t : Row) (beyond : List ℕ) : Type 0 where
     list : List ℕ
     low : identOf (getD left at 0) < vars
@@ -94,7 +94,7 @@ module _ (vars d levels : ℕ) (left : List ℕ) (at : ℕ) (term : List ℕ) (t
           let n = ids-counted (x .children) (r .formed) (r .list) (r .ids) in
           let f = list-found (x .children) (r .formed) (omega (arith, n .0, r .good .few)) after in
           let z : Stands 64 1 (drop to term) 0 t beyond = record { formed = u .formed; few = u .few; low = u .low; wide = u .wide; same = u .same } in
-          let b = body-stands d (r .list) (drop to term) t beyond (r .good) z in
+          let b = body-stands d (r .list) (drop to term) t beyond (r .good) (stands-short 64 1 (drop to term) 0 t beyond z (omega (arith, length-drop to term, short))) z in
           record {
             list = r .list;
             low = rw i (r .low);
@@ -196,3 +196,34 @@ module _ (vars d levels : ℕ) (left : List ℕ) (at : ℕ) (term : List ℕ) (t
           let h = holds p after t beyond l s u in
           let v = identOf (getD left at 0) in
           rw (h .finds) (first-disagreed l v b (sym (compared l (h .low) (slot table v 0 - 1) first-slot k) ∙ y))
+
+-- ---- each way of a part whose variable's list was read
+module _ (d : ℕ) (left : List ℕ) (at : ℕ) (term : List ℕ) (to : ℕ) (ys table : List ℕ) (la : at < length left) (lt : to < length term) (short : length term ≤ 4096) (three : kindOf (getD left at 0) ≡ 3) where
+  pub shares-open : (done : List ℕ) → bodyOf d ys (drop to term) ≡ none → SharesTold d left at term to ys table done false
+  shares-open done b = record { inside = λ e. never (cc); told = λ vars few li levels. hole-open vars d levels left at term to table la lt short three ys done li b }
+
+  module _ (x : ℕ) (var : x ≡ identOf (getD left at 0)) (b : Row) (body : bodyOf d ys (drop to term) ≡ some b) where
+    pub shares-new : slot table x 0 ≡ 0 → SharesTold d left at term to ys table (recorded table x (to + 1) at d) true
+    shares-new z =
+        rw var
+        (record {
+          inside = λ e. part-inside d ys (drop to term) b body;
+          told = λ vars few li levels. hole-new vars d levels left at term to table la lt short three few ys b li body (rw var at z);
+        })
+
+    pub shares-compared : (slot table x 0 ≡ 0 → ⊥) → (same : Bool) → FirstSame left term table x d ys to same → SharesTold d left at term to ys table table same
+    shares-compared met true told =
+        record {
+          inside = λ e. part-inside d ys (drop to term) b body;
+          told = λ vars few li levels. hole-again vars d levels left at term to table la lt short three few ys b li body (rw var at met) true (rw var at told) refl;
+        }
+    shares-compared met false told =
+        record {
+          inside = λ e. never (cc);
+          told = λ vars few li levels. hole-differs vars d levels left at term to table la lt short three few ys b li body (rw var at met) false (rw var at told) table refl;
+        }
+
+-- what was told, once it is known whether the body is shared
+pub shares-told : (d : ℕ) (left : List ℕ) (at : ℕ) (term : List ℕ) (to : ℕ) (ys table done : List ℕ) (r : Bool) → SharesTold d left at term to ys table done r → (c : Bool) → r ≡ c
+    → (vars : ℕ) → vars ≤ 16 → (k : ℕ) → k ≡ countOf (getD left at 0) → listIn k (drop (at + 1) left) ≡ some ys → VariableTold vars d left at term to table done (sharedEnds left at term to c)
+shares-told d left at term to ys table done r s c e vars few k z li = rw e at (s .told vars few (rw z at li))

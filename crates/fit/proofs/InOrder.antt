@@ -2,7 +2,7 @@
 use mathlib.Core.Path.{_≡_, refl, sym, ap, ap₂, _∙_}
 use mathlib.Core.Bool.{true, false}
 use mathlib.Core.List.{List, [], _∷_, _++_, append-assoc, append-nil}
-use Prim.Native.Nat.{ℕ, suc, _+_, _-_, _≤_, _<_}
+use Prim.Native.Nat.{ℕ, zero, suc, _+_, _-_, _≤_, _<_}
 use native.Mathlib.Omega.{arith}
 use native.Mathlib.Numerals.{add-one}
 use lib.Dec.{leb}
@@ -15,7 +15,44 @@ use Rattle.term.specs.Row.{Row, words}
 use Rattle.term.specs.Part.{padded}
 use Rattle.term.proofs.Laws.{padded-fits, padded-short}
 use Rattle.fit.specs.Match.{bodyList, lengthList, Matched, refused, fitted, matchAnswer, matchWords, matchLengths}
-use Rattle.fit.proofs.BodyLoop.{body-more, length-more, lengths-long, body-longer, set-behind}
+
+-- ---- one body more
+pub body-more : (b : ℕ → Row) (x n : ℕ) → bodyList b x (suc n) ≡ bodyList b x n ++ words (b (x + n))
+unfolding bodyList
+body-more b x zero = let z : x + 0 ≡ x = omega arith in rw (z, append-nil (words (b x)))
+body-more b x (suc n) =
+    let z : x + suc n ≡ suc x + n = omega arith in
+    rw z (ap (λ (r : List ℕ). words (b x) ++ r) (body-more b (suc x) n) ∙ sym (append-assoc (words (b x)) (bodyList b (suc x) n) (words (b (suc x + n)))))
+
+pub length-more : (b : ℕ → Row) (x n : ℕ) → lengthList b x (suc n) ≡ lengthList b x n ++ (length (words (b (x + n))) ∷ [])
+unfolding lengthList
+length-more b x zero = let z : x + 0 ≡ x = omega arith in rw z
+length-more b x (suc n) = let z : x + suc n ≡ suc x + n = omega arith in rw z (ap (λ (r : List ℕ). length (words (b x)) ∷ r) (length-more b (suc x) n))
+
+pub lengths-long : (b : ℕ → Row) (x n : ℕ) → length (lengthList b x n) ≡ n
+unfolding lengthList
+lengths-long b x zero = refl
+lengths-long b x (suc n) = ap suc (lengths-long b (suc x) n)
+
+-- the bodies of the first variables are no longer than all
+pub body-longer : (b : ℕ → Row) (x n m : ℕ) → n ≤ m → length (bodyList b x n) ≤ length (bodyList b x m)
+unfolding bodyList
+body-longer b x zero m h = omega arith
+body-longer b x (suc n) zero h = absurd (omega arith)
+body-longer b x (suc n) (suc m) h =
+    omega (arith, body-longer b (suc x) n m (omega arith), length-append (words (b x)) (bodyList b (suc x) n), length-append (words (b x)) (bodyList b (suc x) m))
+
+-- a word set behind a list
+pub set-behind : (xs : List ℕ) (v z : ℕ) (ys : List ℕ) → set (xs ++ (z ∷ ys)) (length xs) v ≡ xs ++ (v ∷ ys)
+set-behind [] v z ys = refl
+set-behind (x ∷ xs) v z ys = ap (λ (r : List ℕ). x ∷ r) (set-behind xs v z ys)
+
+-- a part put behind the words before it, to the end
+pub joined-long : (room at : ℕ) (bodies out part post : List ℕ) → length bodies ≡ room → at ≤ room → length out ≡ room - at → length part ≡ length out → post ≡ []
+    → length (take at bodies ++ (part ++ post)) ≡ room
+joined-long room at bodies out part post n h o long e =
+    length-append (take at bodies) (part ++ post)
+    ∙ rw (e, append-nil part, length-take-le at bodies (omega (arith, n, h))) (omega (arith, long, o, h))
 
 -- what is answered and left
 abbrev pub Leaves : ℕ → Matched → Answer → List ℕ → List ℕ → Type 0
@@ -88,12 +125,6 @@ module _ (vars : ℕ) (b : ℕ → Row) (room : ℕ) (few : vars ≤ 16) where
       joined : List ℕ
       joined = take at bodies ++ (part ++ post)
 
-      joined-long : length joined ≡ room
-      unfolding joined
-      joined-long =
-          length-append (take at bodies) (part ++ post)
-          ∙ rw (nothing-after, append-nil part, length-take-le at bodies (omega (arith, s .long, s .within))) (omega (arith, long, o, s .within))
-
       at-next : at + n ≡ length (bodyList b 0 (suc x))
       at-next = omega (arith, more-long, s .there, is)
 
@@ -123,7 +154,7 @@ module _ (vars : ℕ) (b : ℕ → Row) (room : ℕ) (few : vars ≤ 16) where
       many-more =
           rw (add-one x)
           (record {
-            long = joined-long;
+            long = joined-long room at bodies out part post (s .long) (s .within) o long nothing-after;
             sixteen = simp length-set (s .sixteen);
             within = omega (arith, room-for, o, s .within);
             below = omega arith;

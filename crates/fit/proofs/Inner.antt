@@ -12,15 +12,15 @@ use lib.Seq.{drop-cons}
 use borrow.Author.Tests.{eqb-true, eq-eqb, ne-eqb}
 use Rattle.term.specs.Word
 use Rattle.term.specs.Word.{Head, symbol, abstraction, variable, pattern, kind, kindOf, countOf, identOf, word, InTable}
-use Rattle.term.specs.Row.{Row, nothing, node, width, words, kinds, nesting, Formed}
+use Rattle.term.specs.Row.{Row, nothing, node, width, words, ranks, nesting, Formed}
 use Rattle.term.specs.Renumber.{inside}
-use Rattle.term.specs.Walk.{insideWord}
-use Rattle.term.proofs.Laws.{never, words-node, words-nothing, width-node, width-nothing, nesting-node, nesting-nothing, kinds-node, formed-node, count-word, kind-word, inside-is, count-symbol, count-abstraction, kind-symbol, kind-abstraction, kind-pattern, inside-symbol, inside-abstraction, abstraction-in-table}
+use Rattle.term.specs.told.Walk.{insideWord}
+use Rattle.term.proofs.Laws.{never, words-node, words-nothing, width-node, width-nothing, nesting-node, nesting-nothing, ranks-node, formed-node, count-word, kind-word, inside-is, count-symbol, count-abstraction, kind-symbol, kind-abstraction, kind-pattern, inside-symbol, inside-abstraction, abstraction-in-table}
 use Rattle.fit.specs.declared.fitting.Both.{Both}
 use Rattle.fit.specs.declared.fitting.Both.the-variants.{Done, Stuck}
 use Rattle.fit.specs.Left.{Left, end, hole, part, leftOf}
 use Rattle.fit.specs.Fit.{Found, bothFound, onlyIf, found}
-use Rattle.fit.specs.Told.{LeftRow, LeftStands, TermStands, Knows, agreedFrom, FitTold}
+use Rattle.fit.specs.told.Told.{LeftRow, LeftStands, TermStands, Knows, agreedFrom, FitTold}
 use Rattle.fit.proofs.Basics.{single, Single, same-word}
 use Rattle.fit.proofs.FitRow.{words-tree, both-end}
 
@@ -136,11 +136,11 @@ module _ (vars d levels : ℕ) (left : List ℕ) (at : ℕ) (term : List ℕ) (t
       term-below : TermStands (countOf (getD left at 0)) term (to + 1) (x .parts) beyond
       term-below =
           let f = formed-node (x .other) (x .parts) nothing formed-other in
-          let k : kinds (node (x .other) (x .parts) nothing) ≤ 2 = rw (x .term-is) at (u .few) in
+          let k : ranks (node (x .other) (x .parts) nothing) ≤ 2 = rw (x .term-is) at (u .few) in
           let n : nesting (node (x .other) (x .parts) nothing) ≤ 64 = rw (x .term-is) at (u .low) in
           record {
             formed = f .below;
-            few = omega (arith, k, kinds-node (x .other) (x .parts) nothing);
+            few = omega (arith, k, ranks-node (x .other) (x .parts) nothing);
             low = omega (arith, n, nesting-node (x .other) (x .parts) nothing);
             wide = f .full ∙ sym (ap Word.count heads-same) ∙ counted;
             same = x .term-rest;

@@ -1,4 +1,4 @@
--- Matching one rule and building a left side, judgement by judgement: the book, the rule, then the term or the lengths and the bodies. Each is one line of a definition.
+-- Matching one rule and building a left side, judgement by judgement, of a book that is good: such a book is accepted.
 use mathlib.Core.Path.{_≡_, refl, ap, _∙_}
 use mathlib.Core.Bool.{Bool, true, false}
 use mathlib.Core.List.{List, _++_}
@@ -16,33 +16,30 @@ use Rattle.term.specs.Row.{Row}
 use Rattle.term.specs.Check.{check, termLimits}
 use Rattle.term.proofs.Laws.{padded-short}
 use Rattle.book.specs.Book.{Rule, checkBook, ruleAt}
-use Rattle.book.proofs.Laws.{book-rule}
+use Rattle.book.proofs.Laws.{book-rule, good-accepted, bad-refused}
 use Rattle.fit.specs.Fit.{build, IsBody, matching}
 use Rattle.fit.specs.Match.{treeOf, leftIn, bodyList, lengthList, Matched, refused, fitted, fittedO, matchRule, matchAnswer, matchWords, matchLengths}
 use Rattle.fit.specs.Build as building
 use Rattle.fit.specs.Build.{givenBodies, goodLengths, checkBodies, limited, buildLeft}
 use Rattle.fit.proofs.Accepted.{accepted-good}
+use Rattle.fit.proofs.Asked.{match-refused, match-unknown, match-wrong, match-asked, build-refused, build-unknown, build-wrong-lengths, build-wrong-body, build-asked}
 use Rattle.fit.proofs.BodyLists.{list-lengths, list-words, list-bodies}
 use Rattle.fit.proofs.RoundTrip.{build-agree, body-good, body-tree}
 
 -- ---- matching one rule
 module _ (book : List ℕ) (number : ℕ) (ws : List ℕ) where
   pub match-bad-book : (at : ℕ) → checkBook book ≡ Bad at → matchRule book number ws ≡ refused (BadBook at)
-  unfolding matchRule
-  match-bad-book at e = rw e
+  match-bad-book at e = match-refused book number ws (BadBook at) (bad-refused book at e)
 
   pub match-no-rule : checkBook book ≡ Good → ruleAt book number ≡ none → matchRule book number ws ≡ refused (NoRule number)
-  unfolding matchRule
-  match-no-rule g e = rw (g, e)
+  match-no-rule g e = match-unknown book number ws (good-accepted book g) e
 
   module _ (good : checkBook book ≡ Good) (rule : Rule) (found : ruleAt book number ≡ some rule) where
     pub match-bad-term : (at : ℕ) → check termLimits ws ≡ Bad at → matchRule book number ws ≡ refused (BadTerm at)
-    unfolding matchRule
-    match-bad-term at e = rw (good, found, e)
+    match-bad-term at e = match-wrong book number ws (good-accepted book good) rule found at e
 
     pub match-one-rule : check termLimits ws ≡ Good → matchRule book number ws ≡ fittedO (rule .vars) (matching (leftIn rule) (treeOf ws))
-    unfolding matchRule
-    match-one-rule e = rw (good, found, e)
+    match-one-rule e = match-asked book number ws (good-accepted book good) rule found e
 
 -- a refusal leaves zeros
 pub match-zeros : (room : ℕ) (m : Matched) → 10 ≤ numberOf (matchAnswer room m) → (matchWords room m ≡ replicate room 0) × (matchLengths room m ≡ replicate 16 0)
@@ -58,26 +55,21 @@ match-zeros room (fitted vars b) h = go (leb (length (bodyList b 0 vars)) room) 
 -- ---- building a left side
 module _ (book : List ℕ) (number : ℕ) (bodies lengths : List ℕ) where
   pub build-bad-book : (at : ℕ) → checkBook book ≡ Bad at → buildLeft book number bodies lengths ≡ building.refused (BadBook at)
-  unfolding buildLeft
-  build-bad-book at e = rw e
+  build-bad-book at e = build-refused book number bodies lengths (BadBook at) (bad-refused book at e)
 
   pub build-no-rule : checkBook book ≡ Good → ruleAt book number ≡ none → buildLeft book number bodies lengths ≡ building.refused (NoRule number)
-  unfolding buildLeft
-  build-no-rule g e = rw (g, e)
+  build-no-rule g e = build-unknown book number bodies lengths (good-accepted book g) e
 
   module _ (good : checkBook book ≡ Good) (rule : Rule) (found : ruleAt book number ≡ some rule) where
     pub build-bad-lengths : goodLengths (rule .vars) bodies lengths ≡ false → buildLeft book number bodies lengths ≡ building.refused (BadTerm 16)
-    unfolding buildLeft
-    build-bad-lengths e = rw (good, found, e)
+    build-bad-lengths e = build-wrong-lengths book number bodies lengths (good-accepted book good) rule found e
 
     pub build-bad-body : goodLengths (rule .vars) bodies lengths ≡ true → (x : ℕ) → checkBodies bodies lengths 0 (rule .vars) ≡ Bad x → buildLeft book number bodies lengths ≡ building.refused (BadTerm x)
-    unfolding buildLeft
-    build-bad-body l x e = rw (good, found, l, e)
+    build-bad-body l x e = build-wrong-body book number bodies lengths (good-accepted book good) rule found l x e
 
     pub build-from : goodLengths (rule .vars) bodies lengths ≡ true → checkBodies bodies lengths 0 (rule .vars) ≡ Good
         → buildLeft book number bodies lengths ≡ limited (build (givenBodies bodies lengths) 0 (leftIn rule))
-    unfolding buildLeft
-    build-from l e = rw (good, found, l, e)
+    build-from l e = build-asked book number bodies lengths (good-accepted book good) rule found l e
 
 -- bodies in variable order, with their lengths, build what they turn the left side into
 module _ (book : List ℕ) (number : ℕ) (rule : Rule) (good : checkBook book ≡ Good) (found : ruleAt book number ≡ some rule) (b : ℕ → Row) (terms : (x : ℕ) → x < rule .vars → IsBody (b x)) where

@@ -1,7 +1,7 @@
 -- What a crate above may cite of this one, and nothing else.
 
 -- A term's tree, and what is asked of a rule's left side.
-pub use Rattle.fit.proofs.Matching.{WithinTerm}
+pub use Rattle.fit.proofs.Matching.{WithinTerm, body-within, within-body, tree-within}
 pub use Rattle.fit.proofs.Words.{GoodRule}
 -- Matching is sound and complete for fit, and the bodies are the only ones.
 pub use Rattle.fit.proofs.Words.{same-term, sound, complete, unique, none-fits}
@@ -43,3 +43,10 @@ pub use Rattle.fit.proofs.Lines.{deep-hole, deep-part, first-nothing, f
 pub use Rattle.fit.proofs.Lines.{bodies-none, bodies-more, lengths-none, lengths-more, start-none, start-more, words-at-are, refused-built, built-built}
 -- Matching one rule and building a left side, judgement by judgement; what is left of a refusal; what bodies in variable order build.
 pub use Rattle.fit.proofs.Judgements.{match-bad-book, match-no-rule, match-bad-term, match-one-rule, match-zeros, build-bad-book, build-no-rule, build-bad-lengths, build-bad-body, build-from, build-given}
+-- The same by whether the book is accepted.
+pub use Rattle.fit.proofs.Asked.{sound-good, match-refused, match-unknown, match-wrong, match-asked, build-refused, build-unknown, build-wrong-lengths, build-wrong-body, build-asked}
+-- What comes back, as one record and part by part, both ways.
+pub use Rattle.fit.proofs.Outcomes.{match-came, came-match, BuildAnswered, build-came, came-build}
+-- Document 001's matching rules hold exactly where some bodies fit; a part has a body just where it names nothing but its list.
+pub use Rattle.fit.proofs.DeduktiFits.{as-dedukti}
+pub use Rattle.fit.proofs.Free.{body-free, free-body}

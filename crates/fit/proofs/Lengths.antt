@@ -14,7 +14,7 @@ use Rattle.term.specs.declared.check.Checked.the-variants.{Good, Bad}
 use Rattle.term.specs.Check.{check, termLimits}
 use Rattle.term.proofs.Laws.{never, and-left, and-right}
 use Rattle.fit.specs.Build.{startOf, wordsAt, allZero, goodLengths, bodyNext, checkBodies}
-use Rattle.fit.specs.BuildWalk.{Given}
+use Rattle.fit.specs.told.BuildWalk.{Given}
 
 -- ---- no length at an unused variable
 drop-end : (l : List ℕ) (x : ℕ) → length l ≤ x → drop x l ≡ []

@@ -9,6 +9,10 @@ mod Lowest
 mod Accepted
 mod Above
 mod Standing
+mod Free
+mod DeduktiFits
+mod Asked
+mod Outcomes
 mod Lengths
 mod Agreed
 mod FitRow
@@ -25,8 +29,8 @@ mod BodyLists
 mod RoundTrip
 mod RoundAnswers
 mod First
-mod BodyLoop
 mod InOrder
+mod BodyLoop
 mod OneRule
 mod Matched
 mod Fitted

@@ -13,7 +13,7 @@ use Rattle.term.proofs.Laws.{and-left, and-right, and-both, ident-word, ident-v
 use Rattle.book.specs.Rule.{idsOf}
 use Rattle.fit.specs.Left.{idsOr, leftOf}
 use Rattle.fit.specs.Fit.{build}
-use Rattle.fit.specs.Told.{LeftRow}
+use Rattle.fit.specs.told.Told.{LeftRow}
 use Rattle.fit.specs.Build.{idIn, largest, withinLimits}
 use Rattle.fit.proofs.BuildRow.{wide-built}
 

@@ -1,78 +1,63 @@
 -- What matching one rule answers, way by way: the book, the rule, the term, and then the walk.
 use mathlib.Core.Path.{_≡_, refl, sym, ap, _∙_}
 use mathlib.Core.List.{List}
-use mathlib.Core.Option.{Option, none, some}
+use mathlib.Core.Option.{some}
 use Prim.Native.Nat.{ℕ, _-_, _≤_}
 use native.Mathlib.Omega.{arith}
 use lib.ListN.{length, take, drop, replicate}
 use Rattle.term.specs.declared.check.Checked.the-variants.{Good, Bad}
 use Rattle.term.specs.declared.answer.Answer.{Answer}
 use Rattle.term.specs.declared.answer.Answer.the-variants as answer
+use Rattle.term.specs.Answer.{answered}
 use Rattle.term.specs.Check.{check, termLimits}
 use Rattle.term.proofs.Laws.{good-tree}
 use Rattle.book.specs.declared.book.Sides.{Sides}
 use Rattle.book.specs.declared.book.Found.the-variants as found
+use Rattle.book.specs.declared.accept.Accepted.the-variants.{Sound, Refused}
 use Rattle.book.specs.Book.{Rule, checkBook, ruleAt}
-use Rattle.book.specs.Found.{sidesAt}
+use Rattle.book.specs.Accept.{accept}
+use Rattle.book.specs.told.Found.{sidesAt}
 use Rattle.book.proofs.Laws.{RuleFacts, book-rule, SidesAre, sides-rule, sides-none}
-use Rattle.fit.specs.Left.{leftOf}
-use Rattle.fit.specs.Fit.{matching}
-use Rattle.fit.specs.Match.{treeOf, leftIn, Matched, refused, fittedO, matchRule, matchAnswer, matchWords, matchLengths}
-use Rattle.fit.specs.Told.{RuleTold}
+use Rattle.fit.specs.Match.{treeOf, leftIn, refused, matchRule, matchAnswer, matchWords, matchLengths, matchRuleCame, matchRuleGives}
+use Rattle.fit.specs.told.Told.{RuleTold}
 use Rattle.fit.proofs.Words.{GoodRule}
 use Rattle.fit.proofs.Accepted.{accepted-good}
 use Rattle.fit.proofs.Standing.{accepted-stands, term-standing}
-
--- what is answered and left
-abbrev pub Answered : ℕ → Matched → Answer → List ℕ → List ℕ → Type 0
-Answered room m r bodies lengths = (r ≡ matchAnswer room m) × (bodies ≡ matchWords room m) × (lengths ≡ matchLengths room m)
+use Rattle.fit.proofs.Asked.{sound-good, match-refused, match-unknown, match-wrong, match-asked}
+use Rattle.fit.proofs.Outcomes.{match-came}
 
 -- the left side in the book's words
 abbrev pub leftWords : List ℕ → Sides → List ℕ
 leftWords book sides = take (sides .right - sides .left) (drop (sides .left) book)
 
 module _ (book : List ℕ) (number : ℕ) (ws : List ℕ) (room : ℕ) where
-  bad-book : (at : ℕ) → checkBook book ≡ Bad at → matchRule book number ws ≡ refused (answer.BadBook at)
-  unfolding matchRule
-  bad-book at e = rw e
-
-  no-rule : checkBook book ≡ Good → ruleAt book number ≡ none → matchRule book number ws ≡ refused (answer.NoRule number)
-  unfolding matchRule
-  no-rule e n = rw (e, n)
-
-  bad-term : checkBook book ≡ Good → (rule : Rule) → ruleAt book number ≡ some rule → (at : ℕ) → check termLimits ws ≡ Bad at → matchRule book number ws ≡ refused (answer.BadTerm at)
-  unfolding matchRule
-  bad-term e rule n at t = rw (e, n, t)
-
-  fit-asked : checkBook book ≡ Good → (rule : Rule) → ruleAt book number ≡ some rule → check termLimits ws ≡ Good
-      → matchRule book number ws ≡ fittedO (rule .vars) (matching (leftIn rule) (treeOf ws))
-  unfolding matchRule
-  fit-asked e rule n t = rw (e, n, t)
-
   -- a refusal leaves zeros
   module _ (bodies lengths : List ℕ) (z : bodies ≡ replicate room 0) (y : lengths ≡ replicate 16 0) where
-    refused-zeros : (a : Answer) → matchRule book number ws ≡ refused a → Answered room (matchRule book number ws) a bodies lengths
+    refused-zeros : (a : Answer) → matchRule book number ws ≡ refused a → matchRuleCame (answered a) bodies lengths ≡ matchRuleGives book number ws room
     unfolding matchAnswer matchWords matchLengths
-    refused-zeros a e = rw e (refl, z, y)
+    refused-zeros a e = match-came book number ws room a bodies lengths (rw e (refl, z, y))
 
-    pub match-bad-book : (at : ℕ) → checkBook book ≡ Bad at → Answered room (matchRule book number ws) (answer.BadBook at) bodies lengths
-    match-bad-book at e = refused-zeros (answer.BadBook at) (bad-book at e)
+    pub match-bad-book : (a : Answer) → accept book ≡ Refused a → matchRuleCame (answered a) bodies lengths ≡ matchRuleGives book number ws room
+    match-bad-book a e = refused-zeros a (match-refused book number ws a e)
 
-    module _ (accepted : checkBook book ≡ Good) where
-      pub match-no-rule : sidesAt book number ≡ found.None → Answered room (matchRule book number ws) (answer.NoRule number) bodies lengths
-      match-no-rule e = refused-zeros (answer.NoRule number) (no-rule accepted (sides-none book number e))
+    module _ (accepted : accept book ≡ Sound) where
+      pub match-no-rule : sidesAt book number ≡ found.None → matchRuleCame (answered (answer.NoRule number)) bodies lengths ≡ matchRuleGives book number ws room
+      match-no-rule e = refused-zeros (answer.NoRule number) (match-unknown book number ws accepted (sides-none book number e))
 
       pub match-bad-term : (sides : Sides) → sidesAt book number ≡ found.Rule sides → (at : ℕ) → check termLimits ws ≡ Bad at
-          → Answered room (matchRule book number ws) (answer.BadTerm at) bodies lengths
-      match-bad-term sides e at t = let r = sides-rule book number sides e in refused-zeros (answer.BadTerm at) (bad-term accepted (r .0) (r .1) at t)
+          → matchRuleCame (answered (answer.BadTerm at)) bodies lengths ≡ matchRuleGives book number ws room
+      match-bad-term sides e at t = let r = sides-rule book number sides e in refused-zeros (answer.BadTerm at) (match-wrong book number ws accepted (r .0) (r .1) at t)
 
   -- what the walk needs of the rule and the term, and what it tells of them
-  module _ (accepted : checkBook book ≡ Good) (sides : Sides) (e : sidesAt book number ≡ found.Rule sides) where
+  module _ (accepted : accept book ≡ Sound) (sides : Sides) (e : sidesAt book number ≡ found.Rule sides) where
+    good-book : checkBook book ≡ Good
+    good-book = sound-good book accepted
+
     rule-found : (rule : Rule) × (ruleAt book number ≡ some rule) × SidesAre book rule sides
     rule-found = sides-rule book number sides e
 
     facts : RuleFacts (rule-found .0)
-    facts = book-rule book number (rule-found .0) accepted (rule-found .1)
+    facts = book-rule book number (rule-found .0) good-book (rule-found .1)
 
     pub sides-few : sides .vars ≤ 16
     sides-few = omega (arith, rule-found .2 .vars-is, facts .few)
@@ -88,11 +73,12 @@ module _ (book : List ℕ) (number : ℕ) (ws : List ℕ) (room : ℕ) where
       term-short = good-tree termLimits (omega arith) ws good .short
 
       pub match-fits : (bodies lengths : List ℕ) (r : Answer) → RuleTold (sides .vars) (leftWords book sides) ws room bodies lengths r
-          → Answered room (matchRule book number ws) r bodies lengths
+          → matchRuleCame (answered r) bodies lengths ≡ matchRuleGives book number ws room
       unfolding RuleTold leftIn
       match-fits bodies lengths r told =
           let rule = rule-found .0 in
           let i = rule-found .2 in
           let u : RuleTold (rule .vars) (rule .left) ws room bodies lengths r = rw (i .vars-is, i .left-is) at told in
-          rw (fit-asked accepted rule (rule-found .1) good)
-          (u (treeOf (rule .left)) (treeOf ws) (accepted-stands book accepted number rule (rule-found .1)) (term-standing ws good) (accepted-good book accepted number rule (rule-found .1) .all))
+          match-came book number ws room r bodies lengths
+          (rw (match-asked book number ws accepted rule (rule-found .1) good)
+          (u (treeOf (rule .left)) (treeOf ws) (accepted-stands book good-book number rule (rule-found .1)) (term-standing ws good) (accepted-good book good-book number rule (rule-found .1) .all)))

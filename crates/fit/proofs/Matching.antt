@@ -8,11 +8,12 @@ use native.Mathlib.Omega.{arith}
 use lib.Dec.{eqb}
 use lib.ListN.{length, length-append}
 use borrow.Author.Tests.{eqb-true, eqb-false, eq-eqb, ne-eqb}
-use Rattle.term.specs.Word.{Head, word, pick, kind}
-use Rattle.term.specs.Row.{Row, nothing, node, width, words, kinds, nesting, Formed, _⧺_}
+use Rattle.term.specs.Word.{Head, word, pick, rank}
+use Rattle.term.specs.Row.{Row, nothing, node, width, words, ranks, nesting, Formed, _⧺_}
+use Rattle.term.specs.Check.{IsTerm}
 use Rattle.term.specs.Renumber.{GoodList, inside, toTerm, toBody}
 use Rattle.term.specs.Part.{sameWords}
-use Rattle.term.proofs.Laws.{never, and-left, and-right, and-both, body-keeps, body-formed, formed-node, node-formed, formed-nothing, words-unique, same-words, words-same, words-node, words-nothing, width-node, width-nothing, kinds-node, kinds-nothing, nesting-node, nesting-nothing}
+use Rattle.term.proofs.Laws.{never, and-left, and-right, and-both, body-keeps, body-formed, formed-node, node-formed, formed-nothing, words-unique, same-words, words-same, words-node, words-nothing, width-node, width-nothing, ranks-node, ranks-nothing, nesting-node, nesting-nothing}
 use Rattle.fit.specs.Left.{Left, end, hole, part, GoodLeft}
 use Rattle.fit.specs.Fit.{build, IsBody, Found, bodyThen, bothFound, onlyIf, found, bodyB, bodyIn, allSame, agreed, matching}
 use Rattle.fit.proofs.Found.{given, Agree, agree-given, found-build, found-builds}
@@ -20,33 +21,43 @@ use Rattle.fit.proofs.Found.{given, Agree, agree-given, found-build, fo
 -- ---- what is found in a term is bodies
 pub record WithinTerm (t : Row) : Type 0 where
   pub formed : Formed t
-  pub few : kinds t ≤ 2
+  pub few : ranks t ≤ 2
   pub low : nesting t ≤ 64
   pub short : length (words t) ≤ 4096
 
-below : (h : Head) (kids rest : Row) → WithinTerm (node h kids rest) → WithinTerm kids
+-- a body is one tree within a term's limits, and so is a term
+pub body-within : (b : Row) → IsBody b → WithinTerm b
+body-within b i = record { formed = i .formed; few = i .few; low = i .low; short = i .short }
+
+pub within-body : (b : Row) → width b ≡ 1 → WithinTerm b → IsBody b
+within-body b one w = record { one = one; formed = w .formed; few = w .few; low = w .low; short = w .short }
+
+pub tree-within : (ws : List ℕ) (i : IsTerm ws) → WithinTerm (i .tree)
+tree-within ws i = record { formed = i .formed; few = i .few; low = i .low; short = rw (← i .same) (i .short) }
+
+pub below : (h : Head) (kids rest : Row) → WithinTerm (node h kids rest) → WithinTerm kids
 below h kids rest w =
     let n = formed-node h kids rest (w .formed) in
     let l : length (words (node h kids rest)) ≡ suc (length (words kids) + length (words rest)) = ap length (words-node h kids rest) ∙ ap suc (length-append (words kids) (words rest)) in
     record {
       formed = n .below;
-      few = omega (arith, kinds-node h kids rest, w .few);
+      few = omega (arith, ranks-node h kids rest, w .few);
       low = omega (arith, nesting-node h kids rest, w .low);
       short = omega (arith, l, w .short);
     }
 
-beside : (h : Head) (kids rest : Row) → WithinTerm (node h kids rest) → WithinTerm rest
+pub beside : (h : Head) (kids rest : Row) → WithinTerm (node h kids rest) → WithinTerm rest
 beside h kids rest w =
     let n = formed-node h kids rest (w .formed) in
     let l : length (words (node h kids rest)) ≡ suc (length (words kids) + length (words rest)) = ap length (words-node h kids rest) ∙ ap suc (length-append (words kids) (words rest)) in
     record {
       formed = n .beside;
-      few = omega (arith, kinds-node h kids rest, w .few);
+      few = omega (arith, ranks-node h kids rest, w .few);
       low = omega (arith, nesting-node h kids rest, w .low);
       short = omega (arith, l, w .short);
     }
 
-alone : (h : Head) (kids rest : Row) → WithinTerm (node h kids rest) → WithinTerm (node h kids nothing)
+pub alone : (h : Head) (kids rest : Row) → WithinTerm (node h kids rest) → WithinTerm (node h kids nothing)
 alone h kids rest w =
     let n = formed-node h kids rest (w .formed) in
     let l : length (words (node h kids rest)) ≡ suc (length (words kids) + length (words rest)) = ap length (words-node h kids rest) ∙ ap suc (length-append (words kids) (words rest)) in
@@ -54,7 +65,7 @@ alone h kids rest w =
     let z : length (words nothing) ≡ 0 = ap length words-nothing in
     record {
       formed = node-formed h kids nothing (record { table = n .table; full = n .full; below = n .below; beside = formed-nothing });
-      few = omega (arith, kinds-node h kids rest, kinds-node h kids nothing, kinds-nothing, w .few);
+      few = omega (arith, ranks-node h kids rest, ranks-node h kids nothing, ranks-nothing, w .few);
       low = omega (arith, nesting-node h kids rest, nesting-node h kids nothing, nesting-nothing, w .low);
       short = omega (arith, l, k, z, w .short);
     }
@@ -71,20 +82,22 @@ abbrev AllO : Option Found → Type 0
 AllO none = Unit {0}
 AllO (some l) = AllBodies l
 
+-- the body of one tree of a term is itself one term
+pub part-body : (d : ℕ) (ys : List ℕ) (t : Row) → GoodList d ys → width t ≡ 1 → WithinTerm t → (b : Row) → toBody d ys t ≡ some b → IsBody b
+part-body d ys t g one w b e =
+    let k = body-keeps d ys t b e in
+    record {
+      one = k .wide ∙ one;
+      formed = body-formed d ys g t b (w .formed) (w .low) e;
+      few = omega (arith, k .rank, w .few);
+      low = omega (arith, k .deep, w .low);
+      short = omega (arith, k .long, w .short);
+    }
+
 all-hole : (d x : ℕ) (ys : List ℕ) (t : Row) → GoodList d ys → width t ≡ 1 → WithinTerm t → (o : Option Row) (q : Option Found) → toBody d ys t ≡ o → AllO q → AllO (bodyThen x o q)
 all-hole d x ys t g one w none q e a = tt
 all-hole d x ys t g one w (some b) none e a = tt
-all-hole d x ys t g one w (some b) (some l) e a =
-    let k = body-keeps d ys t b e in (
-      record {
-        one = k .wide ∙ one;
-        formed = body-formed d ys g t b (w .formed) (w .low) e;
-        few = omega (arith, k .kind, w .few);
-        low = omega (arith, k .deep, w .low);
-        short = omega (arith, k .long, w .short);
-      },
-      a,
-    )
+all-hole d x ys t g one w (some b) (some l) e a = (part-body d ys t g one w b e, a)
 
 all-part : (c : Bool) (o q : Option Found) → AllO o → AllO q → AllO (onlyIf c (bothFound o q))
 all-part false o q a b = tt

@@ -12,21 +12,16 @@ use Rattle.term.specs.declared.answer.Answer.the-variants as answer
 use Rattle.term.specs.Word.{word, pick}
 use Rattle.term.specs.Row.{Row, nothing, node}
 use Rattle.term.specs.Renumber.{inside, toBody}
-use Rattle.term.proofs.Laws.{never}
+use Rattle.term.proofs.Laws.{never, zero-at}
 use Rattle.fit.specs.declared.fitting.Both.{Both}
 use Rattle.fit.specs.declared.fitting.Both.the-variants.{Done, Stuck}
 use Rattle.fit.specs.Left.{Left, end, hole, part, leftOf, occurs}
 use Rattle.fit.specs.Fit.{Found, bodyThen, bothFound, onlyIf, found, bodyIn, allSame, agreed, matching}
 use Rattle.fit.specs.Match.{fitted, fittedO, matchAnswer, matchWords, matchLengths}
-use Rattle.fit.specs.Told.{LeftStands, TermStands, slot, present, Knows, agreedFrom, FitTold, BodiesTold, RuleTold}
+use Rattle.fit.specs.told.Told.{LeftStands, TermStands, slot, present, Knows, agreedFrom, FitTold, BodiesTold, RuleTold}
 use Rattle.fit.proofs.Agreed.{present-join}
 
 -- ---- a cleared table knows nothing
-zero-at : (n i : ℕ) → getD {A = ℕ} (replicate n 0) i 0 ≡ 0
-zero-at zero i = refl
-zero-at (suc n) zero = refl
-zero-at (suc n) (suc i) = zero-at n i
-
 pub knows-nothing : (left term table : List ℕ) → table ≡ replicate 48 0 → Knows left term table []
 unfolding present
 knows-nothing left term table e =

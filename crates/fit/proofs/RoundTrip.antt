@@ -8,32 +8,41 @@ use native.Mathlib.Omega.{arith}
 use lib.ListN.{length, replicate}
 use Rattle.term.specs.declared.check.Checked.{Checked}
 use Rattle.term.specs.declared.check.Checked.the-variants.{Good, Bad}
+use Rattle.term.specs.declared.answer.Answer.{Answer}
 use Rattle.term.specs.declared.answer.Answer.the-variants.{Done, Over}
 use Rattle.term.specs.Row.{Row, width, words}
 use Rattle.term.specs.Word.{pick}
 use Rattle.term.specs.Check.{IsTerm, check, termLimits}
 use Rattle.term.specs.Renumber.{inside}
 use Rattle.term.proofs.Laws.{never, tree-good, good-tree}
-use Rattle.book.specs.Book.{Rule, checkBook, ruleAt}
-use Rattle.book.proofs.Laws.{book-rule}
+use Rattle.book.specs.declared.accept.Accepted.{Accepted}
+use Rattle.book.specs.declared.accept.Accepted.the-variants.{Sound, Refused}
+use Rattle.book.specs.Book.{Rule, ruleAt}
+use Rattle.book.specs.Accept.{accept}
+use Rattle.book.proofs.Laws.{book-rule, refusal-number}
 use Rattle.fit.specs.Left.{Left, end, hole, part, GoodLeft}
 use Rattle.fit.specs.Fit.{build, IsBody, Fits, matching}
 use Rattle.fit.specs.Match.{treeOf, leftIn, bodyList, lengthList, Matched, refused, fitted, fittedO, withTerm, withRule, withBook, matchRule}
 use Rattle.fit.specs.Build as building
 use Rattle.fit.specs.Build.{wordsAt, givenBodies, goodLengths, checkBodies, Built, built, withinLimits, limited, withBodies, withLengths, buildLeft}
-use Rattle.fit.specs.BuildWalk.{Given}
-use Rattle.fit.proofs.Matching.{WithinTerm, matched-built}
+use Rattle.fit.specs.told.BuildWalk.{Given}
+use Rattle.fit.proofs.Matching.{WithinTerm, tree-within, matched-built}
 use Rattle.fit.proofs.Words.{GoodRule, sound, complete}
 use Rattle.fit.proofs.Accepted.{tree-of, accepted-good}
+use Rattle.fit.proofs.Asked.{sound-good, match-asked, build-asked}
 use Rattle.fit.proofs.Lengths.{sum-lengths, given-good}
 use Rattle.fit.proofs.BuildAnswers.{given-body, term-within, one, few}
 use Rattle.fit.proofs.Limits.{within-limits}
 use Rattle.fit.proofs.BodyLists.{bodies-back, lengths-back, list-lengths, list-words, list-bodies}
 
+-- what refuses a book is not Done
+no-refusal : (book : List ℕ) (a : Answer) → accept book ≡ Refused a → a ≡ Done → ⊥
+no-refusal book a e z = let n = rw z at (refusal-number book a e) in absurd (omega (arith, n))
+
 -- ---- what was asked where a term was built, and that no refusal is Done
 pub record BuiltIs (book : List ℕ) (number : ℕ) (bodies lengths : List ℕ) (t : Row) : Type 0 where
   rule : Rule
-  accepted : checkBook book ≡ Good
+  accepted : accept book ≡ Sound
   found : ruleAt book number ≡ some rule
   lengths-good : goodLengths (rule .vars) bodies lengths ≡ true
   bodies-good : checkBodies bodies lengths 0 (rule .vars) ≡ Good
@@ -45,32 +54,32 @@ module _ (book : List ℕ) (number : ℕ) (bodies lengths : List ℕ) where
   BuiltO (building.refused a) = a ≡ Done → ⊥
   BuiltO (built t) = BuiltIs book number bodies lengths t
 
-  with-limits : (rule : Rule) → checkBook book ≡ Good → ruleAt book number ≡ some rule → goodLengths (rule .vars) bodies lengths ≡ true → checkBodies bodies lengths 0 (rule .vars) ≡ Good
+  with-limits : (rule : Rule) → accept book ≡ Sound → ruleAt book number ≡ some rule → goodLengths (rule .vars) bodies lengths ≡ true → checkBodies bodies lengths 0 (rule .vars) ≡ Good
       → (c : Bool) → withinLimits (build (givenBodies bodies lengths) 0 (leftIn rule)) ≡ c → BuiltO (pick c (built (build (givenBodies bodies lengths) 0 (leftIn rule))) (building.refused Over))
   with-limits rule a f l b true e = record { rule = rule; accepted = a; found = f; lengths-good = l; bodies-good = b; is = refl; good = e }
   with-limits rule a f l b false e = λ z. never (cc)
 
-  with-bodies : (rule : Rule) → checkBook book ≡ Good → ruleAt book number ≡ some rule → goodLengths (rule .vars) bodies lengths ≡ true
+  with-bodies : (rule : Rule) → accept book ≡ Sound → ruleAt book number ≡ some rule → goodLengths (rule .vars) bodies lengths ≡ true
       → (c : Checked) → checkBodies bodies lengths 0 (rule .vars) ≡ c → BuiltO (withBodies rule bodies lengths c)
   unfolding limited
   with-bodies rule a f l Good e = with-limits rule a f l e (withinLimits (build (givenBodies bodies lengths) 0 (leftIn rule))) refl
   with-bodies rule a f l (Bad x) e = λ z. never (cc)
 
-  with-lengths : (rule : Rule) → checkBook book ≡ Good → ruleAt book number ≡ some rule → (c : Bool) → goodLengths (rule .vars) bodies lengths ≡ c → BuiltO (withLengths rule bodies lengths c)
+  with-lengths : (rule : Rule) → accept book ≡ Sound → ruleAt book number ≡ some rule → (c : Bool) → goodLengths (rule .vars) bodies lengths ≡ c → BuiltO (withLengths rule bodies lengths c)
   with-lengths rule a f true e = with-bodies rule a f e (checkBodies bodies lengths 0 (rule .vars)) refl
   with-lengths rule a f false e = λ z. never (cc)
 
-  with-rule : checkBook book ≡ Good → (o : Option Rule) → ruleAt book number ≡ o → BuiltO (building.withRule number bodies lengths o)
+  with-rule : accept book ≡ Sound → (o : Option Rule) → ruleAt book number ≡ o → BuiltO (building.withRule number bodies lengths o)
   with-rule a none e = λ z. never (cc)
   with-rule a (some rule) e = with-lengths rule a e (goodLengths (rule .vars) bodies lengths) refl
 
-  with-book : (c : Checked) → checkBook book ≡ c → BuiltO (building.withBook book number bodies lengths c)
-  with-book Good e = with-rule e (ruleAt book number) refl
-  with-book (Bad at) e = λ z. never (cc)
+  with-book : (c : Accepted) → accept book ≡ c → BuiltO (building.withBook book number bodies lengths c)
+  with-book Sound e = with-rule e (ruleAt book number) refl
+  with-book (Refused a) e = no-refusal book a e
 
   pub built-o : BuiltO (buildLeft book number bodies lengths)
   unfolding buildLeft
-  built-o = with-book (checkBook book) refl
+  built-o = with-book (accept book) refl
 
   built-is : (t : Row) → buildLeft book number bodies lengths ≡ built t → BuiltIs book number bodies lengths t
   built-is t e = rw e at built-o
@@ -78,7 +87,7 @@ module _ (book : List ℕ) (number : ℕ) (bodies lengths : List ℕ) where
 -- ---- what was asked where a term was matched, and that no refusal is Done
 pub record MatchedIs (book : List ℕ) (number : ℕ) (ws : List ℕ) (vars : ℕ) (b : ℕ → Row) : Type 0 where
   rule : Rule
-  accepted : checkBook book ≡ Good
+  accepted : accept book ≡ Sound
   found : ruleAt book number ≡ some rule
   good : check termLimits ws ≡ Good
   vars-is : rule .vars ≡ vars
@@ -89,26 +98,26 @@ module _ (book : List ℕ) (number : ℕ) (ws : List ℕ) where
   MatchedO (refused a) = a ≡ Done → ⊥
   MatchedO (fitted vars b) = MatchedIs book number ws vars b
 
-  with-fit : (rule : Rule) → checkBook book ≡ Good → ruleAt book number ≡ some rule → check termLimits ws ≡ Good
+  with-fit : (rule : Rule) → accept book ≡ Sound → ruleAt book number ≡ some rule → check termLimits ws ≡ Good
       → (o : Option (ℕ → Row)) → matching (leftIn rule) (treeOf ws) ≡ o → MatchedO (fittedO (rule .vars) o)
   with-fit rule a f g none e = λ z. never (cc)
   with-fit rule a f g (some b) e = record { rule = rule; accepted = a; found = f; good = g; vars-is = refl; fits = e }
 
-  with-term : (rule : Rule) → checkBook book ≡ Good → ruleAt book number ≡ some rule → (c : Checked) → check termLimits ws ≡ c → MatchedO (withTerm rule ws c)
+  with-term : (rule : Rule) → accept book ≡ Sound → ruleAt book number ≡ some rule → (c : Checked) → check termLimits ws ≡ c → MatchedO (withTerm rule ws c)
   with-term rule a f Good e = with-fit rule a f e (matching (leftIn rule) (treeOf ws)) refl
   with-term rule a f (Bad at) e = λ z. never (cc)
 
-  term-rule : checkBook book ≡ Good → (o : Option Rule) → ruleAt book number ≡ o → MatchedO (withRule number ws o)
+  term-rule : accept book ≡ Sound → (o : Option Rule) → ruleAt book number ≡ o → MatchedO (withRule number ws o)
   term-rule a none e = λ z. never (cc)
   term-rule a (some rule) e = with-term rule a e (check termLimits ws) refl
 
-  term-book : (c : Checked) → checkBook book ≡ c → MatchedO (withBook book number ws c)
-  term-book Good e = term-rule e (ruleAt book number) refl
-  term-book (Bad at) e = λ z. never (cc)
+  term-book : (c : Accepted) → accept book ≡ c → MatchedO (withBook book number ws c)
+  term-book Sound e = term-rule e (ruleAt book number) refl
+  term-book (Refused a) e = no-refusal book a e
 
   pub matched-o : MatchedO (matchRule book number ws)
   unfolding matchRule
-  matched-o = term-book (checkBook book) refl
+  matched-o = term-book (accept book) refl
 
   matched-is : (vars : ℕ) (b : ℕ → Row) → matchRule book number ws ≡ fitted vars b → MatchedIs book number ws vars b
   matched-is vars b e = rw e at matched-o
@@ -122,7 +131,7 @@ record One (t : Row) : Type 0 where
 
 module _ (book : List ℕ) (number : ℕ) (bodies lengths : List ℕ) (t : Row) (i : BuiltIs book number bodies lengths t) where
   given : Given (i .rule .vars) bodies lengths
-  given = given-good (i .rule .vars) bodies lengths (book-rule book number (i .rule) (i .accepted) (i .found) .few) (sum-lengths (i .rule .vars) bodies lengths (i .lengths-good) .0) (i .bodies-good)
+  given = given-good (i .rule .vars) bodies lengths (book-rule book number (i .rule) (sound-good book (i .accepted)) (i .found) .few) (sum-lengths (i .rule .vars) bodies lengths (i .lengths-good) .0) (i .bodies-good)
 
   -- what was built is one term
   one-term : One t
@@ -146,15 +155,14 @@ module _ (book : List ℕ) (number : ℕ) (bodies lengths : List ℕ) (t : Row) 
 
   back : length lengths ≡ 16
       → (vars : ℕ) × (b : ℕ → Row) × (matchRule book number (words t) ≡ fitted vars b) × (bodyList b 0 vars ≡ bodies) × (lengthList b 0 vars ++ replicate (16 - vars) 0 ≡ lengths)
-  unfolding matchRule
   back l =
       let z = sum-lengths (i .rule .vars) bodies lengths (i .lengths-good) .1 in
       let f : Fits (i .rule .vars) (leftIn (i .rule)) (words t) (givenBodies bodies lengths) = record { bodies = λ x h. given-body bodies lengths x (given .terms x h); same = ap words (i .is) } in
-      let m = complete (i .rule .vars) (leftIn (i .rule)) (accepted-good book (i .accepted) number (i .rule) (i .found)) t (one-term .within) (one-term .wide) (givenBodies bodies lengths) f in
+      let m = complete (i .rule .vars) (leftIn (i .rule)) (accepted-good book (sound-good book (i .accepted)) number (i .rule) (i .found)) t (one-term .within) (one-term .wide) (givenBodies bodies lengths) f in
       let same : (x : ℕ) → x < i .rule .vars → words (m .0 x) ≡ wordsAt bodies lengths x = λ x h. ap words (m .2 x h) ∙ given-words x h in (
         i .rule .vars,
         m .0,
-        rw (i .accepted, i .found, one-term .good, one-term .tree, m .1),
+        match-asked book number (words t) (i .accepted) (i .rule) (i .found) (one-term .good) ∙ rw (one-term .tree, m .1),
         bodies-back (i .rule .vars) bodies lengths given (m .0) same z,
         lengths-back (i .rule .vars) bodies lengths given (m .0) same z l,
       )
@@ -194,13 +202,13 @@ module _ (book : List ℕ) (number : ℕ) (ws : List ℕ) (vars : ℕ) (b : ℕ 
   term =
       let j = good-tree termLimits (omega arith) ws (i .good) in
       rw (tree-of termLimits ws j)
-      (record { same = sym (j .same); wide = j .one; within = record { formed = j .formed; few = j .few; low = j .low; short = rw (j .same) at (j .short) } })
+      (record { same = sym (j .same); wide = j .one; within = tree-within ws j })
 
   rule-good : GoodRule (i .rule .vars) (leftIn (i .rule))
-  rule-good = accepted-good book (i .accepted) number (i .rule) (i .found)
+  rule-good = accepted-good book (sound-good book (i .accepted)) number (i .rule) (i .found)
 
   few-vars : i .rule .vars ≤ 16
-  few-vars = book-rule book number (i .rule) (i .accepted) (i .found) .few
+  few-vars = book-rule book number (i .rule) (sound-good book (i .accepted)) (i .found) .few
 
   bodies-are : (x : ℕ) → x < i .rule .vars → IsBody (b x)
   bodies-are = sound (i .rule .vars) (leftIn (i .rule)) rule-good (treeOf ws) (term .within) b (i .fits) .bodies
@@ -221,12 +229,12 @@ module _ (book : List ℕ) (number : ℕ) (ws : List ℕ) (vars : ℕ) (b : ℕ 
       ∙ matched-built (i .rule .vars) (leftIn (i .rule)) (rule-good .good) (treeOf ws) (term .within) b (i .fits)
 
   rebuilt : buildLeft book number bodies lengths ≡ built (treeOf ws)
-  unfolding buildLeft limited
+  unfolding limited
   rebuilt =
       let l = list-lengths (i .rule .vars) b few-vars in
       let c = list-bodies (i .rule .vars) b few-vars (λ x h. body-good (b x) (bodies-are x h)) in
       let g : withinLimits (treeOf ws) ≡ true = within-limits (treeOf ws) (term .within .formed) (term .within .low) (term .within .short) in
-      rw (i .accepted, i .found, l, c, builds, g)
+      build-asked book number bodies lengths (i .accepted) (i .rule) (i .found) l c ∙ rw (builds, g)
 
 -- "building from the bodies of a match, given room, gives the term again"
 pub matched-then-built : (book : List ℕ) (number : ℕ) (ws : List ℕ) (vars : ℕ) (b : ℕ → Row) → matchRule book number ws ≡ fitted vars b

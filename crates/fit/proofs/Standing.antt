@@ -15,12 +15,12 @@ use Rattle.term.specs.Check.{Limits, IsTree, check, termLimits}
 use Rattle.term.specs.Renumber.{GoodList}
 use Rattle.term.proofs.Laws.{and-left, formed-node, count-symbol, count-abstraction, count-pattern, good-tree}
 use Rattle.book.specs.Rule.{idsOf, leftShape, sideLimits}
-use Rattle.book.specs.Occurs.{belowVars}
+use Rattle.book.specs.told.Occurs.{belowVars}
 use Rattle.book.specs.Book.{Rule, checkBook, ruleAt}
 use Rattle.book.proofs.Laws.{RuleFacts, book-rule, below-node}
 use Rattle.fit.specs.Left.{idsOr}
 use Rattle.fit.specs.Match.{treeOf}
-use Rattle.fit.specs.Told.{LeftRow, LeftStands, TermStands}
+use Rattle.fit.specs.told.Told.{LeftRow, LeftStands, TermStands}
 use Rattle.fit.proofs.Accepted.{no-variable, under-symbol, under-abstraction, under-pattern, listed, below-both, tree-of}
 
 -- a row of the shape of a left side, with variables below vars

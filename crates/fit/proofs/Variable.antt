@@ -12,10 +12,10 @@ use lib.Seq.{getD-set-same, getD-set-other}
 use borrow.Author.Tests.{eqb-true, eqb-false, eq-eqb, ne-eqb, le-leb}
 use Rattle.term.specs.Word
 use Rattle.term.specs.Word.{Head, symbol, abstraction, variable, pattern, kind, kindOf, countOf, identOf, word, InTable, headOf, ident}
-use Rattle.term.specs.Row.{Row, nothing, node, width, words, kinds, nesting, Formed}
+use Rattle.term.specs.Row.{Row, nothing, node, width, words, ranks, nesting, Formed}
 use Rattle.term.specs.Renumber.{GoodList, toBody}
 use Rattle.term.specs.Part.{bodyOf, sameWords, partEnd}
-use Rattle.term.specs.Walk.{Stands}
+use Rattle.term.specs.told.Walk.{Stands}
 use Rattle.term.proofs.Laws.{never, words-node, words-nothing, width-node, width-nothing, formed-node, count-word, kind-word, ident-word, head-word, count-variable, count-pattern, ident-pattern, kind-symbol, kind-abstraction, kind-variable, body-stands, part-ends, words-same}
 use Rattle.book.specs.Rule.{idsOf, idBefore}
 use Rattle.book.proofs.Laws.{ids-nothing, ids-node}
@@ -23,8 +23,8 @@ use Rattle.fit.specs.declared.fitting.Both.{Both}
 use Rattle.fit.specs.declared.fitting.Both.the-variants.{Done, Stuck}
 use Rattle.fit.specs.Left.{Left, end, hole, part, idsOr, leftOf}
 use Rattle.fit.specs.Fit.{Found, bodyThen, found, bodyIn, allSame}
-use Rattle.book.specs.Ids.{idBeforeO, variableIds, listIn}
-use Rattle.fit.specs.Told.{LeftRow, LeftStands, TermStands, slot, present, Seen, Knows, recorded, agreedFrom, FitTold}
+use Rattle.book.specs.told.Ids.{idBeforeO, variableIds, listIn}
+use Rattle.fit.specs.told.Told.{LeftRow, LeftStands, TermStands, slot, present, Seen, Knows, recorded, agreedFrom, FitTold}
 use Rattle.fit.proofs.Basics.{single, Single}
 use Rattle.fit.proofs.FitRow.{words-tree}
 use Rattle.fit.proofs.Inner.{head-at}

@@ -10,7 +10,7 @@ use lib.Dec.{eqb}
 use lib.ListN.{length}
 use borrow.Author.Tests.{eqb-true, eqb-false, eq-eqb, ne-eqb}
 use Rattle.term.specs.Word.{Head, word, count, pick}
-use Rattle.term.specs.Row.{Row, nothing, node, width, words, kinds, nesting, Formed, _⧺_}
+use Rattle.term.specs.Row.{Row, nothing, node, width, words, ranks, nesting, Formed, _⧺_}
 use Rattle.term.specs.Renumber.{inside, toTerm, toBody}
 use Rattle.term.proofs.Laws.{never, Near, near-unique, near-nothing, near-node, near-join, term-near, term-keeps, width-join, width-node, width-nothing, inside-le}
 use Rattle.fit.specs.Left.{Left, end, hole, part, wide, deep, GoodLeft, occurs}
@@ -41,7 +41,7 @@ near-build vars b i d (part h kids rest) g l =
     (near-build vars b i d rest (g .4) (omega arith))
 
 -- ---- every variable that occurs has the body of its first occurrence
-or-either : {A : Type 0} (a b : Bool) → a || b ≡ true → (a ≡ true → A) → (b ≡ true → A) → A
+pub or-either : {A : Type 0} (a b : Bool) → a || b ≡ true → (a ≡ true → A) → (b ≡ true → A) → A
 or-either true b e f g = f refl
 or-either false b e f g = g e
 

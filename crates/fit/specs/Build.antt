@@ -8,12 +8,16 @@ use lib.ListN.{length, getD, take, drop, replicate}
 use Rattle.term.specs.declared.check.Checked.{Checked}
 use Rattle.term.specs.declared.check.Checked.the-variants.{Good, Bad}
 use Rattle.term.specs.declared.answer.Answer.{Answer}
-use Rattle.term.specs.declared.answer.Answer.the-variants.{Done, BadTerm, BadBook, Short, Over, NoRule}
+use Rattle.term.specs.declared.answer.Answer.the-variants.{Done, BadTerm, Short, Over, NoRule}
+use Rattle.term.specs.Answer.{Answered, answered}
 use Rattle.term.specs.Word.{Head, symbol, abstraction, variable, pattern, pick}
 use Rattle.term.specs.Row.{Row, nothing, node, words, nesting}
 use Rattle.term.specs.Check.{check, termLimits}
 use Rattle.term.specs.Part.{padded}
-use Rattle.book.specs.Book.{Rule, checkBook, ruleAt}
+use Rattle.book.specs.declared.accept.Accepted.{Accepted}
+use Rattle.book.specs.declared.accept.Accepted.the-variants.{Sound, Refused}
+use Rattle.book.specs.Book.{Rule, ruleAt}
+use Rattle.book.specs.Accept.{accept}
 use Rattle.fit.specs.Fit.{build}
 use Rattle.fit.specs.Match.{treeOf, leftIn}
 
@@ -82,12 +86,12 @@ abbrev pub withRule : ℕ → List ℕ → List ℕ → Option Rule → Built
 withRule number bodies lengths none = refused (NoRule number)
 withRule number bodies lengths (some rule) = withLengths rule bodies lengths (goodLengths (rule .vars) bodies lengths)
 
-abbrev pub withBook : List ℕ → ℕ → List ℕ → List ℕ → Checked → Built
-withBook book number bodies lengths Good = withRule number bodies lengths (ruleAt book number)
-withBook book number bodies lengths (Bad at) = refused (BadBook at)
+abbrev pub withBook : List ℕ → ℕ → List ℕ → List ℕ → Accepted → Built
+withBook book number bodies lengths Sound = withRule number bodies lengths (ruleAt book number)
+withBook book number bodies lengths (Refused a) = refused a
 
 unfoldable pub buildLeft : List ℕ → ℕ → List ℕ → List ℕ → Built
-buildLeft book number bodies lengths = withBook book number bodies lengths (checkBook book)
+buildLeft book number bodies lengths = withBook book number bodies lengths (accept book)
 
 unfoldable pub buildAnswer : ℕ → Built → Answer
 buildAnswer room (refused a) = a
@@ -97,3 +101,17 @@ buildAnswer room (built t) = pick (leb (length (words t)) room) Done Short
 unfoldable pub buildWords : ℕ → Built → List ℕ
 buildWords room (refused a) = replicate room 0
 buildWords room (built t) = padded room (words t)
+
+-- ---- all that comes back
+pub record BuildLeftOutcome : Type 0 where
+  pub said : Answered
+  pub out : List ℕ
+
+abbrev pub buildLeftCame : Answered → List ℕ → BuildLeftOutcome
+buildLeftCame said out = record { said = said; out = out }
+
+abbrev pub builtCame : ℕ → Built → BuildLeftOutcome
+builtCame room b = buildLeftCame (answered (buildAnswer room b)) (buildWords room b)
+
+unfoldable pub buildLeftGives : (book : List ℕ) (number : ℕ) (bodies lengths : List ℕ) (room : ℕ) → BuildLeftOutcome
+buildLeftGives book number bodies lengths room = builtCame room (buildLeft book number bodies lengths)

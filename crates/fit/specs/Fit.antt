@@ -7,7 +7,7 @@ use mathlib.Core.Option.{Option, none, some}
 use lib.Dec.{eqb}
 use Rattle.term.specs.Word.{Head, word, pick}
 use Rattle.term.specs.Part.{sameWords}
-use Rattle.term.specs.Row.{Row, nothing, node, width, words, kinds, nesting, Formed, _⧺_}
+use Rattle.term.specs.Row.{Row, nothing, node, width, words, ranks, nesting, Formed, _⧺_}
 use lib.ListN.{length}
 use Rattle.term.specs.Renumber.{inside, toTerm, toBody}
 use Rattle.fit.specs.Left.{Left, end, hole, part}
@@ -22,7 +22,7 @@ build b d (part h kids rest) = node h (build b (inside h d) kids) (build b d res
 pub record IsBody (b : Row) : Type 0 where
   pub one : width b ≡ 1
   pub formed : Formed b
-  pub few : kinds b ≤ 2
+  pub few : ranks b ≤ 2
   pub low : nesting b ≤ 64
   pub short : length (words b) ≤ 4096
 

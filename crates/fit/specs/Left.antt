@@ -5,7 +5,7 @@ use lib.Dec.{eqb}
 use mathlib.Core.Path.{_≡_}
 use mathlib.Core.List.{List, []}
 use mathlib.Core.Option.{Option, none, some}
-use Rattle.term.specs.Word.{Head, symbol, abstraction, variable, pattern, kind, count, InTable}
+use Rattle.term.specs.Word.{Head, symbol, abstraction, variable, pattern, rank, count, InTable}
 use Rattle.term.specs.Row.{Row, nothing, node}
 use Rattle.term.specs.Renumber.{GoodList, inside}
 use Rattle.book.specs.Rule.{idsOf}
@@ -48,4 +48,4 @@ occurs x (part h kids rest) = occurs x kids || occurs x rest
 unfoldable pub GoodLeft : ℕ → ℕ → Left → Type 0
 GoodLeft vars d end = Unit {0}
 GoodLeft vars d (hole x ys rest) = (suc x ≤ vars) × GoodList d ys × GoodLeft vars d rest
-GoodLeft vars d (part h kids rest) = InTable h × (wide kids ≡ count h) × (kind h ≤ 1) × GoodLeft vars (inside h d) kids × GoodLeft vars d rest
+GoodLeft vars d (part h kids rest) = InTable h × (wide kids ≡ count h) × (rank h ≤ 1) × GoodLeft vars (inside h d) kids × GoodLeft vars d rest

@@ -2,7 +2,7 @@ pub mod Left
 pub mod Fit
 pub mod Constraint
 pub mod Match
+pub mod Dedukti
 pub mod Lowest
-pub mod Told
 pub mod Build
-pub mod BuildWalk
+pub mod told

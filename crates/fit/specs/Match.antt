@@ -1,5 +1,6 @@
 -- What matching one rule answers and leaves: document 01's numbers 12, 16, 11, 1, 13, in this order.
 use Prim.Native.Nat.{ℕ, zero, suc, _+_, _-_}
+use mathlib.Core.Path.{_≡_}
 use mathlib.Core.Bool.{Bool, true, false, _&&_}
 use mathlib.Core.List.{List, [], _∷_, _++_}
 use mathlib.Core.Option.{Option, none, some}
@@ -8,12 +9,16 @@ use lib.ListN.{length, replicate}
 use Rattle.term.specs.declared.check.Checked.{Checked}
 use Rattle.term.specs.declared.check.Checked.the-variants.{Good, Bad}
 use Rattle.term.specs.declared.answer.Answer.{Answer}
-use Rattle.term.specs.declared.answer.Answer.the-variants.{Done, NoFit, BadTerm, BadBook, Short, NoRule}
+use Rattle.term.specs.declared.answer.Answer.the-variants.{Done, NoFit, BadTerm, Short, NoRule}
+use Rattle.term.specs.Answer.{Answered, answered}
 use Rattle.term.specs.Word.{pick}
 use Rattle.term.specs.Row.{Row, nothing, words, Got, read}
 use Rattle.term.specs.Check.{check, termLimits}
 use Rattle.term.specs.Part.{padded}
-use Rattle.book.specs.Book.{Rule, checkBook, ruleAt}
+use Rattle.book.specs.declared.accept.Accepted.{Accepted}
+use Rattle.book.specs.declared.accept.Accepted.the-variants.{Sound, Refused}
+use Rattle.book.specs.Book.{Rule, ruleAt}
+use Rattle.book.specs.Accept.{accept}
 use Rattle.fit.specs.Left.{Left, leftOf}
 use Rattle.fit.specs.Fit.{matching}
 
@@ -38,6 +43,11 @@ unfoldable pub lengthList : (ℕ → Row) → ℕ → ℕ → List ℕ
 lengthList b x zero = []
 lengthList b x (suc more) = length (words (b x)) ∷ lengthList b (suc x) more
 
+-- what is left of bodies that have room: the list and then zeros, and the sixteen lengths
+pub record GivesBodies (room vars : ℕ) (b : ℕ → Row) (bodies lengths : List ℕ) : Type 0 where
+  pub bodies-are : bodies ≡ bodyList b 0 vars ++ replicate (room - length (bodyList b 0 vars)) 0
+  pub lengths-are : lengths ≡ lengthList b 0 vars ++ replicate (16 - vars) 0
+
 -- ---- what is asked, in order: the book, the rule, the term, the fit, the room
 pub data Matched : Type 0 where
   refused : Answer → Matched
@@ -55,12 +65,12 @@ abbrev pub withRule : ℕ → List ℕ → Option Rule → Matched
 withRule number ws none = refused (NoRule number)
 withRule number ws (some rule) = withTerm rule ws (check termLimits ws)
 
-abbrev pub withBook : List ℕ → ℕ → List ℕ → Checked → Matched
-withBook book number ws Good = withRule number ws (ruleAt book number)
-withBook book number ws (Bad at) = refused (BadBook at)
+abbrev pub withBook : List ℕ → ℕ → List ℕ → Accepted → Matched
+withBook book number ws Sound = withRule number ws (ruleAt book number)
+withBook book number ws (Refused a) = refused a
 
 unfoldable pub matchRule : List ℕ → ℕ → List ℕ → Matched
-matchRule book number ws = withBook book number ws (checkBook book)
+matchRule book number ws = withBook book number ws (accept book)
 
 unfoldable pub matchAnswer : ℕ → Matched → Answer
 matchAnswer room (refused a) = a
@@ -73,3 +83,18 @@ matchWords room (fitted vars b) = padded room (bodyList b 0 vars)
 unfoldable pub matchLengths : ℕ → Matched → List ℕ
 matchLengths room (refused a) = replicate 16 0
 matchLengths room (fitted vars b) = pick (leb (length (bodyList b 0 vars)) room) (lengthList b 0 vars ++ replicate (16 - vars) 0) (replicate 16 0)
+
+-- ---- all that comes back
+pub record MatchRuleOutcome : Type 0 where
+  pub said : Answered
+  pub bodies : List ℕ
+  pub lengths : List ℕ
+
+abbrev pub matchRuleCame : Answered → List ℕ → List ℕ → MatchRuleOutcome
+matchRuleCame said bodies lengths = record { said = said; bodies = bodies; lengths = lengths }
+
+abbrev pub matchedCame : ℕ → Matched → MatchRuleOutcome
+matchedCame room m = matchRuleCame (answered (matchAnswer room m)) (matchWords room m) (matchLengths room m)
+
+unfoldable pub matchRuleGives : (book : List ℕ) (number : ℕ) (term : List ℕ) (room : ℕ) → MatchRuleOutcome
+matchRuleGives book number term room = matchedCame room (matchRule book number term)

@@ -2,32 +2,31 @@
 ghost use mathlib.Core.Path.{_≡_};
 ghost use Prim.Native.Nat.{_≤_, _<_};
 ghost use lib.ListN.{length, replicate};
-ghost use Rattle.fit.specs.Told.{FirstWritten, BodiesTold};
+ghost use Rattle.fit.specs.told.Told.{FirstWritten, BodiesTold};
 use crate::fitting::first_of;
 use term::answer::Answer;
 use term::lent::clear;
 use term::part::Written;
 use term::part::write_body;
-use term::renumber::Step;
+use term::renumber::Passed;
 
 // Writes the body of a variable's first occurrence.
-fn write_first(left: &[u32], term: &[u32], table: &[u32], x: usize, out: &mut [u32]) -> Step
+fn write_first(left: &[u32], term: &[u32], table: &[u32], x: usize, out: &mut [u32]) -> Passed
     requires { ⌜ (x < 16) × (length (now table) ≡ 48) ⌝ }
     ensures { λ r. ⌜ FirstWritten (now (left .entry)) (now (term .entry)) (now (table .entry)) x (now (out .entry)) (now (out .exit)) r ⌝ }
 {
     let first = first_of(left, term, table, x);
     let there = first.there;
     if !there {
-        return Step::Stuck;
+        return Passed::Stuck;
     }
     let at = first.at;
     let k = first.k;
     let ids = first.ids;
     match write_body(&term[at..], first.depth, &ids[..k], out) {
-        Written::Words(n) => Step::Done(n),
-        Written::NoBody => Step::Stuck,
-        Written::Over => Step::Stuck,
-        Written::Short => Step::Stuck,
+        Written::Words(n) => Passed::Done(n),
+        Written::NoBody => Passed::Stuck,
+        Written::Short => Passed::Stuck,
     }
 }
 
@@ -48,12 +47,12 @@ pub fn write_bodies(
     let mut x: usize = 0;
     while x < vars as usize {
         match write_first(left, term, table, x, &mut bodies[at..]) {
-            Step::Done(n) => {
+            Passed::Done(n) => {
                 lengths[x] = n as u32;
                 at += n;
                 x += 1;
             }
-            Step::Stuck => {
+            Passed::Stuck => {
                 clear(bodies);
                 clear(lengths);
                 return Answer::Short;

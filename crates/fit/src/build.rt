@@ -2,36 +2,33 @@
 ghost use mathlib.Core.Path.{_≡_};
 ghost use Prim.Native.Nat.{_+_, _-_, _≤_};
 ghost use lib.ListN.{length};
-ghost use Rattle.fit.specs.Build.{startOf, goodLengths, checkBodies, buildLeft, buildAnswer, buildWords};
-ghost use Rattle.fit.specs.BuildWalk.{BodyBuilt, HoleBuilt, LeftBuilt, RuleBuilt};
+ghost use Rattle.term.specs.Answer.{answered};
+ghost use Rattle.fit.specs.Build.{startOf, goodLengths, checkBodies, buildLeftCame, buildLeftGives};
+ghost use Rattle.fit.specs.told.BuildWalk.{BodyBuilt, HoleBuilt, LeftBuilt, RuleBuilt};
 use crate::fitting::Both;
+use book::accept::Accepted;
+use book::accept::accept_book;
 use book::book::Found;
-use book::book::check_book;
 use book::book::find_rule;
 use book::ids::ids_of;
+use book::limits::MOST_VARS_LONG;
 use term::answer::Answer;
 use term::check::Checked;
+use term::check::MOST_LEVELS;
 use term::check::MOST_WORDS;
 use term::check::check_term;
 use term::lent::clear;
 use term::lent::put;
-use term::renumber::Step;
-use term::renumber::Way;
+use term::part::write_below;
+use term::renumber::Passed;
 use term::renumber::inside_word;
-use term::renumber::renumber_row;
-use term::word::COUNT;
-use term::word::COUNTS;
-use term::word::KIND;
 use term::word::PATTERN;
-
-// A rule has at most so many variables, and bodies have so many lengths beside them.
-const MOST_VARS: usize = 16;
+use term::word::count_of;
+use term::word::id_of;
+use term::word::kind_of;
 
 // The place of bad lengths: no variable has this number.
 const AT_LENGTHS: usize = 16;
-
-// A term nests at most so deep.
-const LEVELS: u32 = 64;
 
 // How many words stand before the body of a variable.
 pub fn start_of(lengths: &[u32], x: usize) -> usize
@@ -52,11 +49,11 @@ fn good_lengths(vars: u32, bodies: &[u32], lengths: &[u32]) -> bool
     requires { ⌜ length (now lengths) ≡ 16 ⌝ }
     ensures { λ r. ⌜ r ≡ goodLengths vars (now (bodies .entry)) (now (lengths .entry)) ⌝ }
 {
-    if start_of(lengths, MOST_VARS) != bodies.len() {
+    if start_of(lengths, MOST_VARS_LONG) != bodies.len() {
         return false;
     }
     let mut x = vars as usize;
-    while x < MOST_VARS {
+    while x < MOST_VARS_LONG {
         if lengths[x] != 0 {
             return false;
         }
@@ -96,32 +93,22 @@ fn at_most(room: usize, at: usize) -> usize
 }
 
 // Writes the part of a term that a body stands for, from an offset on. Stuck where it is over the limits there.
-fn write_part(d: u32, list: &[u32], levels: u32, body: &[u32], out: &mut [u32], to: usize) -> Step
+fn write_part(d: u32, list: &[u32], levels: u32, body: &[u32], out: &mut [u32], to: usize) -> Passed
     requires { ⌜ (length (now list) ≤ 4) × (levels ≤ 64) ⌝ }
     ensures { λ r. ⌜ BodyBuilt d (now (list .entry)) levels (now (body .entry)) (now (out .entry)) to (now (out .exit)) r ⌝ }
 {
     if MOST_WORDS < to {
-        return Step::Stuck;
+        return Passed::Stuck;
     }
     let from = at_most(out.len(), to);
-    match renumber_row(
-        Way::ToTerm,
-        d,
-        list,
-        0,
-        levels,
-        1,
-        body,
-        0,
-        &mut out[from..],
-    ) {
-        Step::Done(n) => {
+    match write_below(body, d, list, levels, &mut out[from..]) {
+        Passed::Done(n) => {
             if MOST_WORDS - to < n {
-                return Step::Stuck;
+                return Passed::Stuck;
             }
-            Step::Done(to + n)
+            Passed::Done(to + n)
         }
-        Step::Stuck => Step::Stuck,
+        Passed::Stuck => Passed::Stuck,
     }
 }
 
@@ -136,24 +123,24 @@ fn build_variable(
     lengths: &[u32],
     out: &mut [u32],
     to: usize,
-) -> Step
+) -> Passed
     requires { ⌜ (levels ≤ 64) × (length (now lengths) ≡ 16) ⌝ }
     ensures { λ r. ⌜ HoleBuilt w (now (after .entry)) d levels (now (bodies .entry)) (now (lengths .entry)) (now (out .entry)) to (now (out .exit)) r ⌝ }
 {
-    let k = (w / COUNT % COUNTS) as usize;
-    let x = (w % COUNT) as usize;
+    let k = count_of(w) as usize;
+    let x = id_of(w) as usize;
     let found = ids_of(after, k);
     let all = found.all;
     if !all {
-        return Step::Stuck;
+        return Passed::Stuck;
     }
-    if MOST_VARS <= x {
-        return Step::Stuck;
+    if MOST_VARS_LONG <= x {
+        return Passed::Stuck;
     }
     let start = start_of(lengths, x);
     let end = start_of(lengths, x + 1);
     if bodies.len() < end {
-        return Step::Stuck;
+        return Passed::Stuck;
     }
     let ids = found.ids;
     write_part(d, &ids[..k], levels, &bodies[start..end], out, to)
@@ -180,11 +167,19 @@ fn build_tree(
         return Both::Stuck;
     }
     let w = left[at];
-    let k = w / COUNT % COUNTS;
+    let k = count_of(w);
     let next = at + 1;
-    if w / KIND == PATTERN {
-        let Step::Done(end) = build_variable(w, &left[next..], d, levels, bodies, lengths, out, to)
-        else {
+    if kind_of(w) == PATTERN {
+        let Passed::Done(end) = build_variable(
+            w,
+            &left[next..],
+            d,
+            levels,
+            bodies,
+            lengths,
+            out,
+            to,
+        ) else {
             return Both::Stuck;
         };
         return Both::Done(next + k as usize, end);
@@ -243,7 +238,7 @@ fn build_given(vars: u32, left: &[u32], bodies: &[u32], lengths: &[u32], out: &m
     if let Checked::Bad(x) = check_bodies(vars, bodies, lengths) {
         return Answer::BadTerm(x);
     }
-    match build_row(0, LEVELS, 1, left, 0, bodies, lengths, out, 0) {
+    match build_row(0, MOST_LEVELS, 1, left, 0, bodies, lengths, out, 0) {
         Both::Done(_, n) => {
             if n <= out.len() {
                 return Answer::Done;
@@ -266,12 +261,11 @@ pub fn build_left(
     lengths: &[u32; 16],
     out: &mut [u32],
 ) -> Answer
-    ensures { λ r. ⌜ (r ≡ buildAnswer (length (now (out .entry))) (buildLeft (now (book .entry)) number (now (bodies .entry)) (now (lengths .entry))))
-        × (now (out .exit) ≡ buildWords (length (now (out .entry))) (buildLeft (now (book .entry)) number (now (bodies .entry)) (now (lengths .entry)))) ⌝ }
+    ensures { λ r. ⌜ buildLeftCame (answered r) (now (out .exit)) ≡ buildLeftGives (now (book .entry)) number (now (bodies .entry)) (now (lengths .entry)) (length (now (out .entry))) ⌝ }
 {
-    if let Checked::Bad(at) = check_book(book) {
+    if let Accepted::Refused(answer) = accept_book(book) {
         clear(out);
-        return Answer::BadBook(at);
+        return answer;
     }
     let Found::Rule(sides) = find_rule(book, number) else {
         clear(out);

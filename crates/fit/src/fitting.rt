@@ -3,17 +3,17 @@ ghost use mathlib.Core.Bool.{false};
 ghost use mathlib.Core.Path.{_≡_};
 ghost use Prim.Native.Nat.{ℕ, _+_, _≤_, _<_};
 ghost use lib.ListN.{length, getD};
-ghost use Rattle.term.specs.Word.{kindOf};
-ghost use Rattle.fit.specs.Told.{FirstTold, recorded, FirstSame, VariableTold, FitTold};
+ghost use Rattle.term.specs.Word.{kindOf, identOf};
+ghost use Rattle.fit.specs.told.Told.{FirstTold, recorded, FirstSame, SharesTold, VariableTold, FitTold};
 use book::ids::ids_of;
 use term::part::is_closed;
 use term::part::part_end;
 use term::part::same_body;
 use term::renumber::inside_word;
-use term::word::COUNT;
-use term::word::COUNTS;
-use term::word::KIND;
 use term::word::PATTERN;
+use term::word::count_of;
+use term::word::id_of;
+use term::word::kind_of;
 
 // The table has for each variable one more than the offset of its first part, the offset of its word and the abstractions passed.
 pub const TABLE: usize = 48;
@@ -73,7 +73,7 @@ pub fn first_of(left: &[u32], term: &[u32], table: &[u32], x: usize) -> First
     if left.len() <= word {
         return not_there();
     }
-    let k = (left[word] / COUNT % COUNTS) as usize;
+    let k = count_of(left[word]) as usize;
     let next = word + 1;
     let found = ids_of(&left[next..], k);
     let ids = found.ids;
@@ -121,6 +121,32 @@ fn record_first(table: &mut [u32], x: usize, part: u32, word: u32, depth: u32)
     table[own + DEPTH] = depth;
 }
 
+// Whether the part at `to` has a body for the list of x, whose word stands at `at`, and shares it with the first occurrence of x. Where
+// there was none before, it becomes the first.
+fn shares_body(
+    left: &[u32],
+    at: usize,
+    term: &[u32],
+    to: usize,
+    d: u32,
+    list: &[u32],
+    x: usize,
+    table: &mut [u32],
+) -> bool
+    requires { ⌜ (at < length (now left)) × (to < length (now term)) × (length (now left) ≤ 64) × (length (now term) ≤ 4096)
+        × (length (now table) ≡ 48) × (kindOf (getD (now left) at 0) ≡ 3) × (x ≡ identOf (getD (now left) at 0)) × (x < 16) ⌝ }
+    ensures { λ r. ⌜ SharesTold d (now (left .entry)) at (now (term .entry)) to (now (list .entry)) (now (table .entry)) (now (table .exit)) r ⌝ }
+{
+    if !is_closed(&term[to..], d, list) {
+        return false;
+    }
+    if table[PER_VARIABLE * x + PART] == NOT_MET {
+        record_first(table, x, (to + 1) as u32, at as u32, d);
+        return true;
+    }
+    same_as_first(left, term, table, x, d, list, to)
+}
+
 // One pattern variable, at `at`, over the tree of the term at `to`.
 fn fit_variable(
     vars: u32,
@@ -136,8 +162,8 @@ fn fit_variable(
     ensures { λ r. ⌜ VariableTold vars d (now (left .entry)) at (now (term .entry)) to (now (table .entry)) (now (table .exit)) r ⌝ }
 {
     let w = left[at];
-    let x = (w % COUNT) as usize;
-    let k = (w / COUNT % COUNTS) as usize;
+    let x = id_of(w) as usize;
+    let k = count_of(w) as usize;
     let next = at + 1;
     let found = ids_of(&left[next..], k);
     let all = found.all;
@@ -148,14 +174,7 @@ fn fit_variable(
         return Both::Stuck;
     }
     let ids = found.ids;
-    if !is_closed(&term[to..], d, &ids[..k]) {
-        return Both::Stuck;
-    }
-    if table[PER_VARIABLE * x + PART] == NOT_MET {
-        record_first(table, x, (to + 1) as u32, at as u32, d);
-        return Both::Done(next + k, to + part_end(&term[to..]));
-    }
-    if !same_as_first(left, term, table, x, d, &ids[..k], to) {
+    if !shares_body(left, at, term, to, d, &ids[..k], x, table) {
         return Both::Stuck;
     }
     Both::Done(next + k, to + part_end(&term[to..]))
@@ -185,7 +204,7 @@ fn fit_tree(
         return Both::Stuck;
     }
     let w = left[at];
-    if w / KIND == PATTERN {
+    if kind_of(w) == PATTERN {
         return fit_variable(vars, d, left, at, term, to, table);
     }
     if w != term[to] {
@@ -196,7 +215,7 @@ fn fit_tree(
         vars,
         inner,
         levels - 1,
-        w / COUNT % COUNTS,
+        count_of(w),
         left,
         at + 1,
         term,

@@ -2,22 +2,22 @@
 ghost use mathlib.Core.Path.{_≡_};
 ghost use Prim.Native.Nat.{_≤_};
 ghost use lib.ListN.{length, replicate};
-ghost use Rattle.fit.specs.Match.{matchRule, matchAnswer, matchWords, matchLengths};
-ghost use Rattle.fit.specs.Told.{RuleTold};
+ghost use Rattle.term.specs.Answer.{answered};
+ghost use Rattle.fit.specs.Match.{matchRuleCame, matchRuleGives};
+ghost use Rattle.fit.specs.told.Told.{RuleTold};
 use crate::bodies::write_bodies;
 use crate::fitting::Both;
 use crate::fitting::TABLE;
 use crate::fitting::fit_row;
+use book::accept::Accepted;
+use book::accept::accept_book;
 use book::book::Found;
-use book::book::check_book;
 use book::book::find_rule;
+use book::limits::SIDE_LEVELS;
 use term::answer::Answer;
 use term::check::Checked;
 use term::check::check_term;
 use term::lent::clear;
-
-// A left side nests at most so deep.
-const LEVELS: u32 = 16;
 
 // A rule over a term, with a cleared table and cleared outputs.
 fn fit_rule(
@@ -32,7 +32,7 @@ fn fit_rule(
         × (now bodies ≡ replicate (length (now bodies)) 0) × (now lengths ≡ replicate 16 0) ⌝ }
     ensures { λ r. ⌜ RuleTold vars (now (left .entry)) (now (term .entry)) (length (now (bodies .entry))) (now (bodies .exit)) (now (lengths .exit)) r ⌝ }
 {
-    match fit_row(vars, 0, LEVELS, 1, left, 0, term, 0, table) {
+    match fit_row(vars, 0, SIDE_LEVELS, 1, left, 0, term, 0, table) {
         Both::Done(_, _) => write_bodies(vars, left, term, table, bodies, lengths),
         Both::Stuck => Answer::NoFit,
     }
@@ -46,14 +46,12 @@ pub fn match_rule(
     bodies: &mut [u32],
     lengths: &mut [u32; 16],
 ) -> Answer
-    ensures { λ r. ⌜ (r ≡ matchAnswer (length (now (bodies .entry))) (matchRule (now (book .entry)) number (now (term .entry))))
-        × (now (bodies .exit) ≡ matchWords (length (now (bodies .entry))) (matchRule (now (book .entry)) number (now (term .entry))))
-        × (now (lengths .exit) ≡ matchLengths (length (now (bodies .entry))) (matchRule (now (book .entry)) number (now (term .entry)))) ⌝ }
+    ensures { λ r. ⌜ matchRuleCame (answered r) (now (bodies .exit)) (now (lengths .exit)) ≡ matchRuleGives (now (book .entry)) number (now (term .entry)) (length (now (bodies .entry))) ⌝ }
 {
     clear(bodies);
     clear(lengths);
-    if let Checked::Bad(at) = check_book(book) {
-        return Answer::BadBook(at);
+    if let Accepted::Refused(answer) = accept_book(book) {
+        return answer;
     }
     let Found::Rule(sides) = find_rule(book, number) else {
         return Answer::NoRule(number);

@@ -30,7 +30,9 @@ part-write-first-start : tie.Need-part-write-first-start Inv-loop μ-loop
 part-write-first-start c = omega (arith, c .before .loop .inv .long, c .before .loop .inv .within)
 
 write-first-requires : tie.Need-write-first-requires Inv-loop μ-loop
-write-first-requires c κs = (omega (arith, c .before .loop-test .taken, c .before .before .before .before .before .before .before .before .pre .0), c .before .before .before .before .before .before .before .before .pre .2)
+write-first-requires c κs =
+    let start = c .before .before .before .before .before .before .before .before in
+    (omega (arith, c .before .loop-test .taken, start .pre .0), start .pre .2)
 
 cast-lengths : tie.Need-cast-lengths Inv-loop μ-loop
 cast-lengths c = omega (arith, written-within _ _ _ _ _ _ _ (rw (c .before .n .given .1) at (c .before .before .before .before .before .write-first .ensures)), c .before .before .before .before .before .before .before .before .before .before .before .before .before .before .pre .1)
@@ -43,16 +45,19 @@ slice-write-lengths c = omega (arith, c .before .before .before .before .before 
 
 add-at : tie.Need-add-at Inv-loop μ-loop
 add-at c =
-    omega (arith, written-within _ _ _ _ _ _ _ (rw (c .before .n .given .1) at (c .before .before .before .before .before .write-first .ensures)), c .before .before .before .before .before .before .before .before .before .before .before .before .before .before .pre .1, c .before .before .before .before .before .before .before .before .loop .inv .long, c .before .before .before .before .before .before .before .before .loop .inv .within)
+    let turn = c .before .before .before .before .before .before .before .before in
+    omega (arith, written-within _ _ _ _ _ _ _ (rw (c .before .n .given .1) at (c .before .before .before .before .before .write-first .ensures)), c .before .before .before .before .before .before .before .before .before .before .before .before .before .before .pre .1, turn .loop .inv .long, turn .loop .inv .within)
 
 loop-again : tie.Need-loop-again Inv-loop μ-loop
 loop-again c =
-    let s = c .before .before .before .before .before .before .before .before .before .before .before .before .before .before .args in
+    let start = c .before .before .before .before .before .before .before .before .before .before .before .before .before .before in
+    let far = c .before .before .before .before .before in
+    let s = start .args in
     let q = c .before .before .before .before .before .before .before .before .loop in
-    let w = rw (c .before .n .given .1) at (c .before .before .before .before .before .write-first .ensures) in
-    bodies-more (s .vars) (s .left .now) (s .term .now) (s .table .now) (length (s .bodies .now)) (c .before .before .before .before .before .before .before .before .before .before .before .before .before .before .pre .0) (q .bodies) (q .lengths) (q .at) (q .x) (q .inv) (c .before .before .before .before .before .before .before .loop-test .taken) _ _ _ _
+    let w = rw (c .before .n .given .1) at (far .write-first .ensures) in
+    bodies-more (s .vars) (s .left .now) (s .term .now) (s .table .now) (length (s .bodies .now)) (start .pre .0) (q .bodies) (q .lengths) (q .at) (q .x) (q .inv) (c .before .before .before .before .before .before .before .loop-test .taken) _ _ _ _
     (ap length (suffix (q .at) (q .bodies)) ∙ length-drop (q .at) (q .bodies) ∙ omega (arith, q .inv .long))
-    (c .before .before .before .before .before .write-first .kept .1 .1 .1 .1 .0) (drop-of-length-le (drop (q .at) (q .bodies)) {i = length (q .bodies) - q .at} (omega (arith, length-drop (q .at) (q .bodies)))) w
+    (far .write-first .kept .1 .1 .1 .1 .0) (drop-of-length-le (drop (q .at) (q .bodies)) {i = length (q .bodies) - q .at} (omega (arith, length-drop (q .at) (q .bodies)))) w
 
 same-length : tie.Need-same-length Inv-loop μ-loop
 same-length c = c .before .before .before .before .before .before .clear .kept .0 ∙ c .before .before .before .before .before .before .before .before .before .before .before .bodies .given .1 ∙ c .before .before .before .before .before .before .before .before .before .before .before .before .before .before .before .loop .inv .long
@@ -62,10 +67,11 @@ same-length-2 c = c .before .before .clear2 .kept .0 ∙ c .before .before .befo
 
 returns : tie.Need-returns Inv-loop μ-loop
 returns c =
-    let s = c .before .before .before .before .before .before .before .before .before .before .before .before .before .before .before .before .before .before .before .before .before .args in
+    let start = c .before .before .before .before .before .before .before .before .before .before .before .before .before .before .before .before .before .before .before .before .before in
+    let s = start .args in
     let q = c .before .before .before .before .before .before .before .before .before .before .before .before .before .before .before .loop in
     let w = rw (c .before .before .before .before .before .before .before .before .enum-told .given .1) at (c .before .before .before .before .before .before .before .before .before .before .before .before .write-first .ensures) in
-    bodies-short (s .vars) (s .left .now) (s .term .now) (s .table .now) (length (s .bodies .now)) (c .before .before .before .before .before .before .before .before .before .before .before .before .before .before .before .before .before .before .before .before .before .pre .0) (q .bodies) (q .lengths) (q .at) (q .x) (q .inv) (c .before .before .before .before .before .before .before .before .before .before .before .before .before .before .loop-test .taken) _ _
+    bodies-short (s .vars) (s .left .now) (s .term .now) (s .table .now) (length (s .bodies .now)) (start .pre .0) (q .bodies) (q .lengths) (q .at) (q .x) (q .inv) (c .before .before .before .before .before .before .before .before .before .before .before .before .before .before .loop-test .taken) _ _
     (ap length (suffix (q .at) (q .bodies)) ∙ length-drop (q .at) (q .bodies) ∙ omega (arith, q .inv .long)) w _ _
     (cleared _ _ _ (c .before .before .before .before .before .before .before .before .before .before .before .bodies .given .1 ∙ q .inv .long) (c .before .before .before .before .before .before .clear .ensures)) (cleared _ _ _ (q .inv .sixteen) (c .before .before .clear2 .ensures))
 

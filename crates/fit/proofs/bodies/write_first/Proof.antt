@@ -14,7 +14,9 @@ use Rattle.fit.proofs.bodies.write_first.Statement.{statement}
 use Rattle.fit.proofs.bodies.write_first.Tie as tie
 
 returns : tie.Need-returns
-returns c = let s = c .before .before .before .before .before .before .args in first-unwritten (s .left .now) (s .term .now) (s .table .now) (s .x) (c .before .before .before .before .before .before .pre .0) _ (c .before .first-of .ensures) (not-true _ (c .if1 .taken)) _ _
+returns c =
+    let start = c .before .before .before .before .before .before in
+    let s = start .args in first-unwritten (s .left .now) (s .term .now) (s .table .now) (s .x) (start .pre .0) _ (c .before .first-of .ensures) (not-true _ (c .if1 .taken)) _ _
 
 mul-write-body : tie.Need-mul-write-body
 mul-write-body c = let f = first-is _ _ _ _ (c .before .before .before .before .before .before .before .pre .0) _ (c .before .before .first-of .ensures) (not-false _ (c .before .if1 .left)) in omega (arith, f .inside)
@@ -33,31 +35,30 @@ slice-aggregate-write-body c = let f = first-is _ _ _ _ (c .before .before .befo
 
 returns-2 : tie.Need-returns-2
 returns-2 c =
-    let s = c .before .before .before .before .before .before .before .before .before .before .before .before .before .before .before .before .args in
-    let f = first-is _ _ _ _ (c .before .before .before .before .before .before .before .before .before .before .before .before .before .before .before .before .pre .0) _ (c .before .before .before .before .before .before .before .before .before .before .before .first-of .ensures) (not-false _ (c .before .before .before .before .before .before .before .before .before .before .if1 .left)) in
+    let start = c .before .before .before .before .before .before .before .before .before .before .before .before .before .before .before .before in
+    let far = c .before .before .before .before .before .before .before .before .before .before .before in
+    let s = start .args in
+    let f = first-is _ _ _ _ (start .pre .0) _ (far .first-of .ensures) (not-false _ (c .before .before .before .before .before .before .before .before .before .before .if1 .left)) in
     let w = rw (suffix _ (s .term .now)) at (c .before .before .before .before .before .write-body .ensures) in
-    first-written (s .left .now) (s .term .now) (s .table .now) (s .x) (c .before .before .before .before .before .before .before .before .before .before .before .before .before .before .before .before .pre .0) _ (c .before .before .before .before .before .before .before .before .before .before .before .first-of .ensures) f (s .out .now) _ _ (sym (c .before .n .given .1) ∙ w .0) (w .1)
+    first-written (s .left .now) (s .term .now) (s .table .now) (s .x) (start .pre .0) _ (far .first-of .ensures) f (s .out .now) _ _ (sym (c .before .n .given .1) ∙ w .0) (w .1)
 
 returns-3 : tie.Need-returns-3
 returns-3 c =
-    let s = c .before .before .before .before .before .before .before .before .before .before .before .before .before .before .before .args in
-    let f = first-is _ _ _ _ (c .before .before .before .before .before .before .before .before .before .before .before .before .before .before .before .pre .0) _ (c .before .before .before .before .before .before .before .before .before .before .first-of .ensures) (not-false _ (c .before .before .before .before .before .before .before .before .before .if1 .left)) in
+    let start = c .before .before .before .before .before .before .before .before .before .before .before .before .before .before .before in
+    let far = c .before .before .before .before .before .before .before .before .before .before in
+    let s = start .args in
+    let f = first-is _ _ _ _ (start .pre .0) _ (far .first-of .ensures) (not-false _ (c .before .before .before .before .before .before .before .before .before .if1 .left)) in
     let w = rw (suffix _ (s .term .now)) at (c .before .before .before .before .write-body .ensures) in
-    first-short (s .left .now) (s .term .now) (s .table .now) (s .x) (c .before .before .before .before .before .before .before .before .before .before .before .before .before .before .before .pre .0) _ (c .before .before .before .before .before .before .before .before .before .before .first-of .ensures) f (s .out .now) _ _ (sym (c .enum-told .given .1) ∙ w .0) (λ n e. never (cc))
+    first-short (s .left .now) (s .term .now) (s .table .now) (s .x) (start .pre .0) _ (far .first-of .ensures) f (s .out .now) _ _ (sym (c .enum-told .given .1) ∙ w .0) (λ n e. never (cc))
 
 returns-4 : tie.Need-returns-4
 returns-4 c =
-    let s = c .before .before .before .before .before .before .before .before .before .before .before .before .before .before .before .args in
-    let f = first-is _ _ _ _ (c .before .before .before .before .before .before .before .before .before .before .before .before .before .before .before .pre .0) _ (c .before .before .before .before .before .before .before .before .before .before .first-of .ensures) (not-false _ (c .before .before .before .before .before .before .before .before .before .if1 .left)) in
+    let start = c .before .before .before .before .before .before .before .before .before .before .before .before .before .before .before in
+    let far = c .before .before .before .before .before .before .before .before .before .before in
+    let s = start .args in
+    let f = first-is _ _ _ _ (start .pre .0) _ (far .first-of .ensures) (not-false _ (c .before .before .before .before .before .before .before .before .before .if1 .left)) in
     let w = rw (suffix _ (s .term .now)) at (c .before .before .before .before .write-body .ensures) in
-    first-short (s .left .now) (s .term .now) (s .table .now) (s .x) (c .before .before .before .before .before .before .before .before .before .before .before .before .before .before .before .pre .0) _ (c .before .before .before .before .before .before .before .before .before .before .first-of .ensures) f (s .out .now) _ _ (sym (c .enum-told2 .given .1) ∙ w .0) (λ n e. never (cc))
-
-returns-5 : tie.Need-returns-5
-returns-5 c =
-    let s = c .before .before .before .before .before .before .before .before .before .before .before .before .before .before .before .args in
-    let f = first-is _ _ _ _ (c .before .before .before .before .before .before .before .before .before .before .before .before .before .before .before .pre .0) _ (c .before .before .before .before .before .before .before .before .before .before .first-of .ensures) (not-false _ (c .before .before .before .before .before .before .before .before .before .if1 .left)) in
-    let w = rw (suffix _ (s .term .now)) at (c .before .before .before .before .write-body .ensures) in
-    first-short (s .left .now) (s .term .now) (s .table .now) (s .x) (c .before .before .before .before .before .before .before .before .before .before .before .before .before .before .before .pre .0) _ (c .before .before .before .before .before .before .before .before .before .before .first-of .ensures) f (s .out .now) _ _ (sym (c .enum-told3 .given .1) ∙ w .0) (λ n e. never (cc))
+    first-short (s .left .now) (s .term .now) (s .table .now) (s .x) (start .pre .0) _ (far .first-of .ensures) f (s .out .now) _ _ (sym (c .enum-told2 .given .1) ∙ w .0) (λ n e. never (cc))
 
 pub write-first-spec : {M : Type 1} → statement M
 write-first-spec =
@@ -76,11 +77,8 @@ write-first-spec =
     (λ c. search needs)
     (λ c. search needs)
     (λ c. search needs)
-    (λ c. search needs)
     returns-2
     (λ c. search needs)
     returns-3
     (λ c. search needs)
-    returns-4
-    (λ c. search needs)
-    returns-5)
+    returns-4)

@@ -2,13 +2,13 @@
 -- the whole row.
 use borrow.Author.Needs.{needs}
 use native.Mathlib.Omega.{arith}
-use mathlib.Core.Path.{_≡_, refl, _∙_}
+use mathlib.Core.Path.{_≡_, refl, sym, _∙_}
 use mathlib.Core.List.{List}
 use Prim.Native.Nat.{ℕ, _<_, _+_, _*_}
 use lib.ListN.{length, getD}
 use Rattle.term.proofs.Laws.{suffix, inside-small}
 use Rattle.fit.specs.declared.fitting.Both.{Both}
-use Rattle.fit.specs.BuildWalk.{LeftBuilt}
+use Rattle.fit.specs.told.BuildWalk.{LeftBuilt}
 use Rattle.fit.proofs.BuildRow.{build-none, build-deep, build-ended, build-stuck, build-more}
 use Rattle.fit.proofs.BuildTree.{build-full, build-inner, build-body, build-no-body}
 use borrow.Fn.Kinds.{In}
@@ -22,6 +22,8 @@ use Rattle.fit.proofs.build.+build_row+build_tree.Lts-build_tree as bui
 use Rattle.fit.proofs.build.build_variable.Reads as build-variable
 use Rattle.term.proofs.lent.put.Reads as put
 use Rattle.term.proofs.renumber.inside_word.Reads as inside-word
+use Rattle.term.proofs.word.kind_of.Reads as kind-of
+use Rattle.term.proofs.word.count_of.Reads as count-of
 use Rattle.fit.proofs.build.+build_row+build_tree.{statement}
 use Rattle.fit.proofs.build.+build_row+build_tree.Tie.{close}
 
@@ -48,7 +50,7 @@ abbrev row-calls : ℕ → build-row-lts.Claims
 row-calls t = (tree-below t, build-tree.Post)
 
 abbrev tree-calls : ℕ → build-tree-lts.Claims
-tree-calls t = (build-variable.Asked, build-variable.Learnt, put.Asked, put.Learnt, inside-word.Asked, inside-word.Learnt, row-below t, build-row.Post)
+tree-calls t = (count-of.Asked, count-of.Learnt, kind-of.Asked, kind-of.Learnt, build-variable.Asked, build-variable.Learnt, put.Asked, put.Learnt, inside-word.Asked, inside-word.Learnt, row-below t, build-row.Post)
 
 abbrev Inv-loop : build-row-lts.InvT-loop
 Inv-loop d levels count left at bodies lengths out₀ to a₀ b₀ more₀ out a b more =
@@ -63,11 +65,12 @@ row-requires t c κs = let p = c .before .before .before .before .before .before
 
 row-again : (t : ℕ) → build-row-lts.Need-loop-again (row-calls t) (row-at t) build-row.Post Inv-loop μ-loop
 row-again t c =
+    let far = c .before .before .before .before .before in
     let s = c .before .before .before .before .before .before .before .before .before .before .before .before .before .args in
     let q = c .before .before .before .before .before .before .before .before .loop in (
-      c .before .before .before .before .before .build-tree .kept .1 .1 .1 .1 .1 .1 .0 ∙ q .inv .0,
+      far .build-tree .kept .1 .1 .1 .1 .1 .1 .0 ∙ q .inv .0,
       λ last r told. q .inv .1 last r
-          (build-more (s .d) (s .levels) (q .more) (s .left .now) (q .a) (s .bodies .now) (s .lengths .now) (q .out) (q .b) (c .before .before .before .before .before .before .before .loop-test .taken) _ _ _ (rw (c .before .p .given .1) at (c .before .before .before .before .before .build-tree .ensures)) last r told),
+          (build-more (s .d) (s .levels) (q .more) (s .left .now) (q .a) (s .bodies .now) (s .lengths .now) (q .out) (q .b) (c .before .before .before .before .before .before .before .loop-test .taken) _ _ _ (rw (c .before .p .given .1) at (far .build-tree .ensures)) last r told),
     )
 
 row-stuck : (t : ℕ) → build-row-lts.Need-returns (row-calls t) (row-at t) build-row.Post Inv-loop μ-loop
@@ -89,33 +92,39 @@ tree-ended : (t : ℕ) → build-tree-lts.Need-returns-2 (tree-calls t) (tree-at
 tree-ended t c = build-ended _ _ _ _ _ _ _ _ _ (λ e. omega (arith, e)) _ (c .if2 .taken)
 
 tree-body-requires : (t : ℕ) → build-tree-lts.Need-build-variable-requires (tree-calls t) (tree-at t) build-tree.Post
-tree-body-requires t c κs = (omega (arith, c .before .before .before .before .before .before .before .before .before .before .pre .1 .0), c .before .before .before .before .before .before .before .before .before .before .pre .1 .1)
+tree-body-requires t c κs =
+    let start = c .before .before .before .before .before .before .before .before .before .before .before .before in
+    (omega (arith, start .pre .1 .0), start .pre .1 .1)
 
 tree-no-body : (t : ℕ) → build-tree-lts.Need-returns-3 (tree-calls t) (tree-at t) build-tree.Post
 tree-no-body t c =
-    let s = c .before .before .before .before .before .before .before .before .before .before .before .before .before .before .before .args in
-    build-no-body (s .d) (s .levels) (s .left .now) (s .at) (c .before .before .before .before .before .before .before .before .before .if2 .left) (s .bodies .now) (s .lengths .now) (s .out .now) (s .to) (c .before .before .before .before .before .before .before .if3 .taken) _
+    let s = c .before .before .before .before .before .before .before .before .before .before .before .before .before .before .before .before .before .args in
+    build-no-body (s .d) (s .levels) (s .left .now) (s .at) (c .before .before .before .before .before .before .before .before .before .before .before .if2 .left) (s .bodies .now) (s .lengths .now) (s .out .now) (s .to) (sym (c .before .before .before .before .before .before .before .before .kind-of .ensures) ∙ c .before .before .before .before .before .before .before .if3 .taken) _
     (rw (suffix (s .at + 1) (s .left .now), c .enum-told .given .1) at (c .before .before .before .before .build-variable .ensures))
 
 tree-body : (t : ℕ) → build-tree-lts.Need-returns-4 (tree-calls t) (tree-at t) build-tree.Post
 tree-body t c =
-    let s = c .before .before .before .before .before .before .before .before .before .before .before .before .before .before .before .before .args in
-    build-body (s .d) (s .levels) (s .left .now) (s .at) (c .before .before .before .before .before .before .before .before .before .before .if2 .left) (s .bodies .now) (s .lengths .now) (s .out .now) (s .to) (c .before .before .before .before .before .before .before .before .if3 .taken) _ (c .before .end .given .0 .0)
-    (rw (suffix (s .at + 1) (s .left .now), c .before .end .given .1) at (c .before .before .before .before .before .build-variable .ensures))
+    let s = c .before .before .before .before .before .before .before .before .before .before .before .before .before .before .before .before .before .before .args in
+    rw (c .before .before .before .before .before .before .before .before .before .before .count-of .ensures)
+    (build-body (s .d) (s .levels) (s .left .now) (s .at) (c .before .before .before .before .before .before .before .before .before .before .before .before .if2 .left) (s .bodies .now) (s .lengths .now) (s .out .now) (s .to) (sym (c .before .before .before .before .before .before .before .before .before .kind-of .ensures) ∙ c .before .before .before .before .before .before .before .before .if3 .taken) _ (c .before .end .given .0 .0)
+    (rw (suffix (s .at + 1) (s .left .now), c .before .end .given .1) at (c .before .before .before .before .before .build-variable .ensures)))
 
 tree-full : (t : ℕ) → build-tree-lts.Need-returns-5 (tree-calls t) (tree-at t) build-tree.Post
 tree-full t c =
-    let s = c .before .before .before .before .before .before .before .before .before .args in build-full (s .d) (s .levels) (s .left .now) (s .at) (c .before .before .before .if2 .left) (s .bodies .now) (s .lengths .now) (s .out .now) (s .to) (c .before .if3 .left) _ (c .if4 .taken)
+    let s = c .before .before .before .before .before .before .before .before .before .before .before .args in
+    build-full (s .d) (s .levels) (s .left .now) (s .at) (c .before .before .before .before .before .if2 .left) (s .bodies .now) (s .lengths .now) (s .out .now) (s .to) (λ e. c .before .if3 .left (c .before .before .kind-of .ensures ∙ e)) _ (c .if4 .taken)
 
 tree-inside-requires : (t : ℕ) → build-tree-lts.Need-inside-word-requires (tree-calls t) (tree-at t) build-tree.Post
-tree-inside-requires t c κs = omega (arith, c .before .before .before .before .before .before .before .before .before .before .before .before .before .pre .1 .0)
+tree-inside-requires t c κs = omega (arith, c .before .before .before .before .before .before .before .before .before .before .before .before .before .before .before .pre .1 .0)
 
 tree-row-requires : (t : ℕ) → build-tree-lts.Need-build-row-requires (tree-calls t) (tree-at t) build-tree.Post
 tree-row-requires t c κs =
-    let s = c .before .before .before .before .before .before .before .before .before .before .before .before .before .before .before .args in
-    let p = c .before .before .before .before .before .before .before .before .before .before .before .before .before .before .before .pre in (
-      omega (arith, p .0, c .before .before .before .before .before .before .before .before .before .before .if1 .left),
-      (omega (arith, c .before .inside-word .ensures, inside-small (getD (s .left .now) (s .at) 0) (s .d), p .1 .0, c .before .before .before .before .before .before .before .before .before .before .if1 .left), p .1 .1),
+    let start = c .before .before .before .before .before .before .before .before .before .before .before .before .before .before .before .before .before in
+    let far = c .before .before .before .before .before .before .before .before .before .before .before .before in
+    let s = start .args in
+    let p = start .pre in (
+      omega (arith, p .0, far .if1 .left),
+      (omega (arith, c .before .inside-word .ensures, inside-small (getD (s .left .now) (s .at) 0) (s .d), p .1 .0, far .if1 .left), p .1 .1),
     )
 
 tree-length : (t : ℕ) → build-tree-lts.Need-same-length-3 (tree-calls t) (tree-at t) build-tree.Post
@@ -123,9 +132,9 @@ tree-length t c = c .before .before .build-row .kept .1 .1 .1 .1 .1 .1 .1 .0 ∙
 
 tree-inner : (t : ℕ) → build-tree-lts.Need-returns-6 (tree-calls t) (tree-at t) build-tree.Post
 tree-inner t c =
-    let s = c .before .before .before .before .before .before .before .before .before .before .before .before .before .before .before .before .before .before .args in
-    build-inner (s .d) (s .levels) (s .left .now) (s .at) (c .before .before .before .before .before .before .before .before .before .before .before .before .if2 .left) (s .bodies .now) (s .lengths .now) (s .out .now) (s .to) (c .before .before .before .before .before .before .before .before .before .before .if3 .left) (omega (arith, c .before .before .before .before .before .before .before .before .before .before .before .before .before .if1 .left)) (c .before .before .before .before .before .before .before .before .before .if4 .left) _ _
-    (rw (c .before .before .before .before .inside-word .ensures, c .before .before .before .before .before .before .before .put .ensures) at (c .before .before .build-row .ensures))
+    let s = c .before .before .before .before .before .before .before .before .before .before .before .before .before .before .before .before .before .before .before .before .args in
+    build-inner (s .d) (s .levels) (s .left .now) (s .at) (c .before .before .before .before .before .before .before .before .before .before .before .before .before .before .if2 .left) (s .bodies .now) (s .lengths .now) (s .out .now) (s .to) (λ e. c .before .before .before .before .before .before .before .before .before .before .if3 .left (c .before .before .before .before .before .before .before .before .before .before .before .kind-of .ensures ∙ e)) (omega (arith, c .before .before .before .before .before .before .before .before .before .before .before .before .before .before .before .if1 .left)) (c .before .before .before .before .before .before .before .before .before .if4 .left) _ _
+    (rw (c .before .before .before .before .before .before .before .before .before .before .before .before .count-of .ensures, c .before .before .before .before .inside-word .ensures, c .before .before .before .before .before .before .before .put .ensures) at (c .before .before .build-row .ensures))
 
 pub +build-row+build-tree-spec : {M : Type 1} → statement M
 +build-row+build-tree-spec = close row-falls tree-falls (λ t. build-row-lts.spec (row-calls t) (row-at t) build-row.Post Inv-loop μ-loop
@@ -145,7 +154,9 @@ pub +build-row+build-tree-spec : {M : Type 1} → statement M
     (tree-ended t)
     (λ c. omega arith)
     (λ c. omega arith)
+    (λ c κs. search needs)
     (λ c. omega arith)
+    (λ c κs. search needs)
     (λ c. omega arith)
     (λ c. omega arith)
     (λ c. omega arith)
@@ -155,8 +166,8 @@ pub +build-row+build-tree-spec : {M : Type 1} → statement M
     (λ c. search needs)
     (λ c. search needs)
     (tree-no-body t)
-    (λ c. omega arith)
-    (λ c. omega arith)
+    (λ c. search needs)
+    (λ c. search needs)
     (λ c. search needs)
     (tree-body t)
     (tree-full t)

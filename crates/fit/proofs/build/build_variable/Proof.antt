@@ -13,20 +13,20 @@ use Rattle.fit.proofs.build.build_variable.Tie as tie
 
 returns : tie.Need-returns
 returns c =
-    let s = c .before .before .before .before .before .before .args in
+    let s = c .before .before .before .before .before .before .before .before .args in
     hole-no-list (s .w) (s .after .now) (s .d) (s .levels) (s .bodies .now) (s .lengths .now) (s .out .now) (s .to) _
-    (told-none _ _ _ _ (c .before .ids-of .ensures) (not-true _ (c .if1 .taken)))
+    (rw (c .before .before .before .count-of .ensures) at (told-none _ _ _ _ (c .before .ids-of .ensures) (not-true _ (c .if1 .taken))))
 
 returns-2 : tie.Need-returns-2
 returns-2 c =
-    let s = c .before .before .before .before .before .before .before .args in
-    hole-no-variable (s .w) (s .after .now) (s .d) (s .levels) (s .bodies .now) (s .lengths .now) (s .out .now) (s .to) _ (c .if2 .taken)
+    let s = c .before .before .before .before .before .before .before .before .before .args in
+    hole-no-variable (s .w) (s .after .now) (s .d) (s .levels) (s .bodies .now) (s .lengths .now) (s .out .now) (s .to) _ (omega (arith, c .if2 .taken, c .before .before .before .id-of .ensures))
 
 returns-3 : tie.Need-returns-3
 returns-3 c =
-    let s = c .before .before .before .before .before .before .before .before .before .before .args in
+    let s = c .before .before .before .before .before .before .before .before .before .before .before .before .args in
     hole-past (s .w) (s .after .now) (s .d) (s .levels) (s .bodies .now) (s .lengths .now) (s .out .now) (s .to) _
-    (omega (arith, c .if3 .taken, c .before .start-of2 .ensures))
+    (omega (arith, c .if3 .taken, rw (c .before .before .before .before .before .before .id-of .ensures) at (c .before .start-of2 .ensures)))
 
 array-share-prefix-ids : tie.Need-array-share-prefix-ids
 array-share-prefix-ids c =
@@ -37,25 +37,27 @@ slice-aggregate-write-part c =
     let t = told-list _ _ _ _ (c .before .before .before .before .before .before .before .ids-of .ensures) (not-false _ (c .before .before .before .before .before .before .if1 .left)) in sym (length-take-le _ _ (omega (arith, t .1, t .2)))
 
 rises : tie.Need-sub-write-part
-rises c = omega (arith, c .before .before .before .before .start-of .ensures, c .before .before .before .start-of2 .ensures, start-next (c .before .before .before .before .before .before .before .before .before .before .before .before .args .lengths .now) (identOf (c .before .before .before .before .before .before .before .before .before .before .before .before .args .w)))
+rises c = omega (arith, rw (c .before .before .before .before .before .before .before .before .id-of .ensures) at (c .before .before .before .before .start-of .ensures), rw (c .before .before .before .before .before .before .before .before .id-of .ensures) at (c .before .before .before .start-of2 .ensures), start-next (c .before .before .before .before .before .before .before .before .before .before .before .before .before .before .args .lengths .now) (identOf (c .before .before .before .before .before .before .before .before .before .before .before .before .before .before .args .w)))
 
 write-part-requires : tie.Need-write-part-requires
 write-part-requires c κs =
-    let t = told-list _ _ _ _ (c .before .before .before .before .before .before .before .before .before .ids-of .ensures) (not-false _ (c .before .before .before .before .before .before .before .before .if1 .left)) in (few-taken _ _ (t .1) (t .2), c .before .before .before .before .before .before .before .before .before .before .before .before .before .before .pre .0)
+    let t = told-list _ _ _ _ (c .before .before .before .before .before .before .before .before .before .ids-of .ensures) (not-false _ (c .before .before .before .before .before .before .before .before .if1 .left)) in (few-taken _ _ (t .1) (t .2), c .before .before .before .before .before .before .before .before .before .before .before .before .before .before .before .before .pre .0)
 
 returns-4 : tie.Need-returns-4
 returns-4 c =
-    let s = c .before .before .before .before .before .before .before .before .before .before .before .before .before .before .before .before .before .args in
+    let s = c .before .before .before .before .before .before .before .before .before .before .before .before .before .before .before .before .before .before .before .args in
     let t = told-list _ _ _ _ (c .before .before .before .before .before .before .before .before .before .before .before .before .ids-of .ensures) (not-false _ (c .before .before .before .before .before .before .before .before .before .before .before .if1 .left)) in
-    hole-wrote (s .w) (s .after .now) (s .d) (s .levels) (s .bodies .now) (s .lengths .now) (s .out .now) (s .to) _ _ (t .0) _
-    (rw (c .before .before .before .before .before .before .before .before .start-of2 .ensures, c .before .before .before .before .before .before .before .before .before .start-of .ensures, body-words (s .bodies .now) (s .lengths .now) (identOf (s .w))) at (c .before .before .write-part .ensures))
+    hole-wrote (s .w) (s .after .now) (s .d) (s .levels) (s .bodies .now) (s .lengths .now) (s .out .now) (s .to) _ _ (rw (c .before .before .before .before .before .before .before .before .before .before .before .before .before .before .count-of .ensures) at (t .0)) _
+    (rw (c .before .before .before .before .before .before .before .before .start-of2 .ensures, c .before .before .before .before .before .before .before .before .before .start-of .ensures, c .before .before .before .before .before .before .before .before .before .before .before .before .before .id-of .ensures, c .before .before .before .before .before .before .before .before .before .before .before .before .before .before .count-of .ensures, body-words (s .bodies .now) (s .lengths .now) (identOf (s .w))) at (c .before .before .write-part .ensures))
 
 pub build-variable-spec : {M : Type 1} → statement M
 build-variable-spec =
     tie.close
     (tie.spec
-    (λ c. search needs)
-    (λ c. search needs)
+    (λ c κs. search needs)
+    (λ c. omega (arith, c .count-of .ensures))
+    (λ c κs. search needs)
+    (λ c. omega (arith, c .id-of .ensures))
     (λ c κs. search needs)
     returns
     returns-2

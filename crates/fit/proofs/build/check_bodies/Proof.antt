@@ -18,7 +18,9 @@ abbrev μ-loop : tie.MeasureT-loop
 μ-loop vars bodies lengths x₀ x = vars - x
 
 loop-holds : tie.Need-loop-holds Inv-loop μ-loop
-loop-holds c = sym (ap (checkBodies (c .before .before .args .bodies .now) (c .before .before .args .lengths .now) 0) (sub-zero (c .before .before .args .vars)))
+loop-holds c =
+    let start = c .before .before in
+    sym (ap (checkBodies (start .args .bodies .now) (start .args .lengths .now) 0) (sub-zero (start .args .vars)))
 
 returns : tie.Need-returns Inv-loop μ-loop
 returns c =

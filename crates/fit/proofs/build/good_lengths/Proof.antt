@@ -27,8 +27,10 @@ returns-2 c =
 
 loop-again : tie.Need-loop-again Inv-loop μ-loop
 loop-again c =
-    let s = c .before .before .before .before .before .before .before .before .args in
-    c .before .before .before .loop .inv ∙ zero-next (s .lengths .now) (c .before .before .before .loop .x) (omega (arith, c .before .before .loop-test .taken, c .before .before .before .before .before .before .before .before .pre)) (c .if2 .left)
+    let start = c .before .before .before .before .before .before .before .before in
+    let turn = c .before .before .before in
+    let s = start .args in
+    turn .loop .inv ∙ zero-next (s .lengths .now) (turn .loop .x) (omega (arith, c .before .before .loop-test .taken, start .pre)) (c .if2 .left)
 
 returns-3 : tie.Need-returns-3 Inv-loop μ-loop
 returns-3 c =

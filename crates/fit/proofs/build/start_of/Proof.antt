@@ -19,7 +19,8 @@ loop-holds c = (omega arith, refl, omega arith)
 
 add-sum : tie.Need-add-sum Inv-loop μ-loop
 add-sum c =
-    omega (arith, c .before .before .before .pre .0, c .before .before .loop .inv .2, c .shared-slice-known .given (c .before .before .loop .i))
+    let turn = c .before .before in
+    omega (arith, c .before .before .before .pre .0, turn .loop .inv .2, c .shared-slice-known .given (turn .loop .i))
 
 loop-again : tie.Need-loop-again Inv-loop μ-loop
 unfolding startOf
@@ -29,9 +30,10 @@ loop-again c =
 
 returns : tie.Need-returns Inv-loop μ-loop
 returns c =
+    let start = c .before .before in
     let q = c .before .loop .inv in
-    let e : c .before .loop .i ≡ c .before .before .args .x = omega (arith, q .0, c .loop-test .left) in
-    q .1 ∙ ap (startOf (c .before .before .args .lengths .now)) e
+    let e : c .before .loop .i ≡ start .args .x = omega (arith, q .0, c .loop-test .left) in
+    q .1 ∙ ap (startOf (start .args .lengths .now)) e
 
 pub start-of-spec : {M : Type 1} → statement M
 start-of-spec =

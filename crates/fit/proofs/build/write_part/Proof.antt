@@ -14,20 +14,20 @@ returns-2 : tie.Need-returns-2
 returns-2 c =
     let s = c .before .before .before .before .before .before .before .before .before .before .before .before .before .args in
     part-long (s .d) (s .list .now) (s .levels) (s .body .now) (s .out .now) (s .to) _ (c .before .before .before .before .before .before .before .before .at-most .ensures) (c .before .before .before .before .before .before .before .before .before .if1 .left) _ (c .before .before .n .given .0 .0)
-    (rw (suffix (c .before .before .before .before .before .before .before .before .at-most .result) (s .out .now), c .before .before .n .given .1) at (c .before .before .before .before .before .before .renumber-row .ensures)) (c .if2 .taken) _
+    (rw (suffix (c .before .before .before .before .before .before .before .before .at-most .result) (s .out .now), c .before .before .n .given .1) at (c .before .before .before .before .before .before .write-below .ensures)) (c .if2 .taken) _
 
 returns-3 : tie.Need-returns-3
 returns-3 c =
     let s = c .before .before .before .before .before .before .before .before .before .before .before .before .before .args in
-    rw (put-back (s .out .now) (c .before .before .before .before .before .before .renumber-row .last .1 .1 .1 .1 .1 .1 .1 .1 .0) (c .before .before .before .before .before .before .before .before .at-most .result))
+    rw (put-back (s .out .now) (c .before .before .before .before .before .before .write-below .last .1 .1 .1 .1 .0) (c .before .before .before .before .before .before .before .before .at-most .result))
     (part-wrote (s .d) (s .list .now) (s .levels) (s .body .now) (s .out .now) (s .to) _ (c .before .before .before .before .before .before .before .before .at-most .ensures) (c .before .before .before .before .before .before .before .before .before .if1 .left) _ (c .before .before .n .given .0 .0)
-    (rw (suffix (c .before .before .before .before .before .before .before .before .at-most .result) (s .out .now), c .before .before .n .given .1) at (c .before .before .before .before .before .before .renumber-row .ensures)) (c .if2 .left))
+    (rw (suffix (c .before .before .before .before .before .before .before .before .at-most .result) (s .out .now), c .before .before .n .given .1) at (c .before .before .before .before .before .before .write-below .ensures)) (c .if2 .left))
 
 returns-4 : tie.Need-returns-4
 returns-4 c =
     let s = c .before .before .before .before .before .before .before .before .before .before .before .args in
     part-over (s .d) (s .list .now) (s .levels) (s .body .now) (s .out .now) (s .to) _ (c .before .before .before .before .before .before .at-most .ensures) (c .before .before .before .before .before .before .before .if1 .left) _
-    (rw (suffix (c .before .before .before .before .before .before .at-most .result) (s .out .now), c .enum-told .given .1) at (c .before .before .before .before .renumber-row .ensures)) _
+    (rw (suffix (c .before .before .before .before .before .before .at-most .result) (s .out .now), c .enum-told .given .1) at (c .before .before .before .before .write-below .ensures)) _
 
 pub write-part-spec : {M : Type 1} → statement M
 write-part-spec =

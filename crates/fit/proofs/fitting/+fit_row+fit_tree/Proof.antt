@@ -8,7 +8,7 @@ use Prim.Native.Nat.{ℕ, _<_, _≤_, _+_, _-_, _*_}
 use lib.ListN.{length, getD}
 use Rattle.term.proofs.Laws.{inside-small}
 use Rattle.fit.specs.declared.fitting.Both.{Both}
-use Rattle.fit.specs.Told.{FitTold}
+use Rattle.fit.specs.told.Told.{FitTold}
 use Rattle.fit.proofs.FitRow.{fit-none, fit-deep, fit-left-ended, fit-term-ended, fit-stuck, fit-more}
 use Rattle.fit.proofs.Inner.{inner-differ, inner-told}
 use borrow.Fn.Kinds.{In}
@@ -21,6 +21,8 @@ use Rattle.fit.proofs.fitting.fit_tree.Kinds as fit-tree-kinds
 use Rattle.fit.proofs.fitting.+fit_row+fit_tree.Lts-fit_tree as fit-tree-lts
 use Rattle.fit.proofs.fitting.fit_variable.Reads as fit-variable
 use Rattle.term.proofs.renumber.inside_word.Reads as inside-word
+use Rattle.term.proofs.word.kind_of.Reads as kind-of
+use Rattle.term.proofs.word.count_of.Reads as count-of
 use Rattle.fit.proofs.fitting.+fit_row+fit_tree.{statement}
 use Rattle.fit.proofs.fitting.+fit_row+fit_tree.Tie.{close}
 
@@ -47,7 +49,7 @@ abbrev row-calls : ℕ → fit-row-lts.Claims
 row-calls t = (tree-below t, fit-tree.Post)
 
 abbrev tree-calls : ℕ → fit-tree-lts.Claims
-tree-calls t = (fit-variable.Asked, fit-variable.Learnt, inside-word.Asked, inside-word.Learnt, row-below t, fit-row.Post)
+tree-calls t = (kind-of.Asked, kind-of.Learnt, fit-variable.Asked, fit-variable.Learnt, inside-word.Asked, inside-word.Learnt, count-of.Asked, count-of.Learnt, row-below t, fit-row.Post)
 
 abbrev Inv-loop : fit-row-lts.InvT-loop
 Inv-loop vars d levels count left at term to table₀ a₀ b₀ more₀ table a b more =
@@ -66,10 +68,11 @@ row-requires t c κs =
 
 row-again : (t : ℕ) → fit-row-lts.Need-loop-again (row-calls t) (row-at t) fit-row.Post Inv-loop μ-loop
 row-again t c =
+    let far = c .before .before .before .before .before in
     let s = c .before .before .before .before .before .before .before .before .before .before .before .before .args in
     let q = c .before .before .before .before .before .before .before .before .loop in (
-      c .before .before .before .before .before .fit-tree .kept .1 .1 .1 .1 .1 .1 .1 .0 ∙ q .inv .0,
-      λ last r told. q .inv .1 last r (fit-more (s .vars) (s .d) (s .levels) (q .more) (s .left .now) (q .a) (s .term .now) (q .b) (q .table) (c .before .before .before .before .before .before .before .loop-test .taken) _ _ _ (rw (c .before .p .given .1) at (c .before .before .before .before .before .fit-tree .ensures)) last r told),
+      far .fit-tree .kept .1 .1 .1 .1 .1 .1 .1 .0 ∙ q .inv .0,
+      λ last r told. q .inv .1 last r (fit-more (s .vars) (s .d) (s .levels) (q .more) (s .left .now) (q .a) (s .term .now) (q .b) (q .table) (c .before .before .before .before .before .before .before .loop-test .taken) _ _ _ (rw (c .before .p .given .1) at (far .fit-tree .ensures)) last r told),
     )
 
 row-stuck : (t : ℕ) → fit-row-lts.Need-returns (row-calls t) (row-at t) fit-row.Post Inv-loop μ-loop
@@ -95,31 +98,36 @@ tree-term-ended t c = fit-term-ended _ _ _ _ _ _ _ _ _ (λ e. omega (arith, e)) 
 
 tree-variable-requires : (t : ℕ) → fit-tree-lts.Need-fit-variable-requires (tree-calls t) (tree-at t) fit-tree.Post
 tree-variable-requires t c κs =
-    let p = c .before .before .before .before .before .before .before .before .before .pre .1 in (p .0, c .before .before .before .before .if2 .left, c .before .before .before .if3 .left, p .2, p .3, p .4, c .before .if4 .taken)
+    let p = c .before .before .before .before .before .before .before .before .before .before .pre .1 in (p .0, c .before .before .before .before .before .if2 .left, c .before .before .before .before .if3 .left, p .2, p .3, p .4, sym (c .before .before .kind-of .ensures) ∙ c .before .if4 .taken)
 
 tree-variable : (t : ℕ) → fit-tree-lts.Need-returns-4 (tree-calls t) (tree-at t) fit-tree.Post
 tree-variable t c = c .before .before .fit-variable .ensures _
 
 tree-differ : (t : ℕ) → fit-tree-lts.Need-returns-5 (tree-calls t) (tree-at t) fit-tree.Post
 tree-differ t c =
-    let s = c .before .before .before .before .before .before .before .before .before .before .args in inner-differ (s .vars) (s .d) (s .levels) (s .left .now) (s .at) (s .term .now) (s .to) (s .table .now) _ (c .before .before .before .before .before .if2 .left) (c .before .before .before .before .if3 .left) (c .before .before .if4 .left) (c .if5 .taken)
+    let s = c .before .before .before .before .before .before .before .before .before .before .before .args in
+    inner-differ (s .vars) (s .d) (s .levels) (s .left .now) (s .at) (s .term .now) (s .to) (s .table .now) _ (c .before .before .before .before .before .before .if2 .left) (c .before .before .before .before .before .if3 .left)
+    (λ e. c .before .before .if4 .left (c .before .before .before .kind-of .ensures ∙ e)) (c .if5 .taken)
 
 tree-inside-requires : (t : ℕ) → fit-tree-lts.Need-inside-word-requires (tree-calls t) (tree-at t) fit-tree.Post
-tree-inside-requires t c κs = omega (arith, c .before .before .before .before .before .before .before .before .before .before .pre .1 .1)
+tree-inside-requires t c κs = omega (arith, c .before .before .before .before .before .before .before .before .before .before .before .pre .1 .1)
 
 tree-row-requires : (t : ℕ) → fit-tree-lts.Need-fit-row-requires (tree-calls t) (tree-at t) fit-tree.Post
 tree-row-requires t c κs =
-    let s = c .before .before .before .before .before .before .before .before .before .before .before .before .args in
-    let p = c .before .before .before .before .before .before .before .before .before .before .before .before .pre in (
-      omega (arith, p .0, c .before .before .before .before .before .before .before .before .if1 .left),
-      (p .1 .0, omega (arith, c .before .inside-word .ensures, inside-small (getD (s .left .now) (s .at) 0) (s .d), p .1 .1, c .before .before .before .before .before .before .before .before .if1 .left), p .1 .2, p .1 .3, p .1 .4),
+    let start = c .before .before .before .before .before .before .before .before .before .before .before .before .before .before in
+    let far = c .before .before .before .before .before .before .before .before .before .before in
+    let s = start .args in
+    let p = start .pre in (
+      omega (arith, p .0, far .if1 .left),
+      (p .1 .0, omega (arith, c .before .before .inside-word .ensures, inside-small (getD (s .left .now) (s .at) 0) (s .d), p .1 .1, far .if1 .left), p .1 .2, p .1 .3, p .1 .4),
     )
 
 tree-inner : (t : ℕ) → fit-tree-lts.Need-returns-6 (tree-calls t) (tree-at t) fit-tree.Post
 tree-inner t c =
-    let s = c .before .before .before .before .before .before .before .before .before .before .before .before .before .before .before .args in
-    inner-told (s .vars) (s .d) (s .levels) (s .left .now) (s .at) (s .term .now) (s .to) (s .table .now) _ (c .before .before .before .before .before .before .before .before .before .before .if2 .left) (c .before .before .before .before .before .before .before .before .before .if3 .left) (c .before .before .before .before .before .before .before .if4 .left) (c .before .before .before .before .before .if5 .left) _
-    (rw (c .before .before .before .before .inside-word .ensures) at (c .before .before .fit-row .ensures))
+    let s = c .before .before .before .before .before .before .before .before .before .before .before .before .before .before .before .before .before .args in
+    inner-told (s .vars) (s .d) (s .levels) (s .left .now) (s .at) (s .term .now) (s .to) (s .table .now) _ (c .before .before .before .before .before .before .before .before .before .before .before .before .if2 .left) (c .before .before .before .before .before .before .before .before .before .before .before .if3 .left)
+    (λ e. c .before .before .before .before .before .before .before .before .if4 .left (c .before .before .before .before .before .before .before .before .before .kind-of .ensures ∙ e)) (c .before .before .before .before .before .before .if5 .left) _
+    (rw (c .before .before .before .before .count-of .ensures, c .before .before .before .before .before .inside-word .ensures) at (c .before .before .fit-row .ensures))
 
 pub +fit-row+fit-tree-spec : {M : Type 1} → statement M
 +fit-row+fit-tree-spec = close row-falls tree-falls (λ t. fit-row-lts.spec (row-calls t) (row-at t) fit-row.Post Inv-loop μ-loop
@@ -140,6 +148,7 @@ pub +fit-row+fit-tree-spec : {M : Type 1} → statement M
     (tree-term-ended t)
     (λ c. omega arith)
     (λ c. omega arith)
+    (λ c κs. search needs)
     (tree-variable-requires t)
     (λ c. search needs)
     (tree-variable t)
@@ -148,6 +157,7 @@ pub +fit-row+fit-tree-spec : {M : Type 1} → statement M
     (tree-differ t)
     (tree-inside-requires t)
     (λ c. omega arith)
+    (λ c κs. search needs)
     (λ c. omega arith)
     (λ c. omega arith)
     (tree-row-requires t)

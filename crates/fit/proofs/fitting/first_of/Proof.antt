@@ -10,25 +10,32 @@ use Rattle.fit.proofs.fitting.first_of.Statement.{statement}
 use Rattle.fit.proofs.fitting.first_of.Tie as tie
 
 returns : tie.Need-returns
-returns c = let s = c .before .before .before .before .before .before .args in first-new (s .left .now) (s .term .now) (s .table .now) (s .x) (c .before .before .before .before .before .before .pre .0) _ (c .not-there .ensures) (c .before .if1 .taken)
+returns c =
+    let start = c .before .before .before .before .before .before in
+    let s = start .args in first-new (s .left .now) (s .term .now) (s .table .now) (s .x) (start .pre .0) _ (c .not-there .ensures) (c .before .if1 .taken)
 
 cast-at : tie.Need-cast-at
 cast-at c = let s = c .before .before .before .before .before .before .args in omega (arith, c .shared-slice-known5 .given (3 * s .x + 0))
 
 returns-2 : tie.Need-returns-2
-returns-2 c = let s = c .before .before .before .before .before .before .before .before .args in first-past-term (s .left .now) (s .term .now) (s .table .now) (s .x) (c .before .before .before .before .before .before .before .before .pre .0) _ (c .before .before .before .if1 .left) (c .not-there2 .ensures) (c .before .if2 .taken)
+returns-2 c =
+    let start = c .before .before .before .before .before .before .before .before in
+    let s = start .args in first-past-term (s .left .now) (s .term .now) (s .table .now) (s .x) (start .pre .0) _ (c .before .before .before .if1 .left) (c .not-there2 .ensures) (c .before .if2 .taken)
 
 cast-word : tie.Need-cast-word
 cast-word c = let s = c .before .before .before .before .before .before .before .before .args in omega (arith, c .shared-slice-known6 .given (3 * s .x + 1))
 
 returns-3 : tie.Need-returns-3
-returns-3 c = let s = c .before .before .before .before .before .before .before .before .before .before .args in first-past-left (s .left .now) (s .term .now) (s .table .now) (s .x) (c .before .before .before .before .before .before .before .before .before .before .pre .0) _ (c .before .before .before .before .before .if1 .left) (c .not-there3 .ensures) (c .before .if3 .taken)
+returns-3 c =
+    let start = c .before .before .before .before .before .before .before .before .before .before in
+    let s = start .args in first-past-left (s .left .now) (s .term .now) (s .table .now) (s .x) (start .pre .0) _ (c .before .before .before .before .before .if1 .left) (c .not-there3 .ensures) (c .before .if3 .taken)
 
 returns-4 : tie.Need-returns-4
 returns-4 c =
-    let s = c .before .before .before .before .before .before .before .before .before .before .before .before .before .before .args in
-    first-read (s .left .now) (s .term .now) (s .table .now) (s .x) (c .before .before .before .before .before .before .before .before .before .before .before .before .before .before .pre .0) _ (c .before .before .before .before .before .before .before .before .before .if1 .left) (omega (arith, c .before .before .before .before .before .before .before .if2 .left)) _ _
-    (rw (suffix (getD (s .table .now) (3 * s .x + 1) 0 + 1) (s .left .now)) at (c .before .before .ids-of .ensures)) refl refl refl refl refl
+    let start = c .before .before .before .before .before .before .before .before .before .before .before .before .before .before .before in
+    let s = start .args in
+    first-read (s .left .now) (s .term .now) (s .table .now) (s .x) (start .pre .0) _ (c .before .before .before .before .before .before .before .before .before .before .if1 .left) (omega (arith, c .before .before .before .before .before .before .before .before .if2 .left)) _ _
+    (rw (suffix (getD (s .table .now) (3 * s .x + 1) 0 + 1) (s .left .now)) at (c .before .before .ids-of .ensures)) refl refl (c .before .before .before .before .count-of .ensures) refl refl
 
 pub first-of-spec : {M : Type 1} → statement M
 first-of-spec =
@@ -55,7 +62,8 @@ first-of-spec =
     returns-3
     (λ c. omega arith)
     (λ c. omega arith)
-    (λ c. omega arith)
+    (λ c κs. search needs)
+    (λ c. omega (arith, c .count-of .ensures))
     (λ c. omega arith)
     (λ c. omega arith)
     (λ c. omega arith)

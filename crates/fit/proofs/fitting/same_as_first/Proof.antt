@@ -7,13 +7,15 @@ use Prim.Native.Nat.{ℕ, _+_, _*_, _≤_}
 use lib.ListN.{length, take, drop, getD}
 use lib.Seq.{length-take-le}
 use Rattle.term.proofs.Laws.{suffix}
-use Rattle.fit.specs.Told.{FirstSame}
+use Rattle.fit.specs.told.Told.{FirstSame}
 use Rattle.fit.proofs.First.{first-is, first-compared, first-absent}
 use Rattle.fit.proofs.fitting.same_as_first.Statement.{statement}
 use Rattle.fit.proofs.fitting.same_as_first.Tie as tie
 
 returns : tie.Need-returns
-returns c = let s = c .before .before .before .before .before .before .args in first-absent (s .left .now) (s .term .now) (s .table .now) (s .x) (c .before .before .before .before .before .before .pre .0) _ (c .before .first-of .ensures) (not-true _ (c .if1 .taken)) _ _ _ _
+returns c =
+    let start = c .before .before .before .before .before .before in
+    let s = start .args in first-absent (s .left .now) (s .term .now) (s .table .now) (s .x) (start .pre .0) _ (c .before .first-of .ensures) (not-true _ (c .if1 .taken)) _ _ _ _
 
 mul-same-body : tie.Need-mul-same-body
 mul-same-body c = let f = first-is _ _ _ _ (c .before .before .before .before .before .before .before .pre .0) _ (c .before .before .first-of .ensures) (not-false _ (c .before .if1 .left)) in omega (arith, f .inside)
@@ -32,10 +34,12 @@ slice-aggregate-same-body c = let f = first-is _ _ _ _ (c .before .before .befor
 
 returns-2 : tie.Need-returns-2
 returns-2 c =
-    let s = c .before .before .before .before .before .before .before .before .before .before .before .args in
-    let f = first-is _ _ _ _ (c .before .before .before .before .before .before .before .before .before .before .before .pre .0) _ (c .before .before .before .before .before .before .first-of .ensures) (not-false _ (c .before .before .before .before .before .if1 .left)) in
+    let start = c .before .before .before .before .before .before .before .before .before .before .before in
+    let far = c .before .before .before .before .before .before in
+    let s = start .args in
+    let f = first-is _ _ _ _ (start .pre .0) _ (far .first-of .ensures) (not-false _ (c .before .before .before .before .before .if1 .left)) in
     rw (c .same-body .ensures, suffix _ (s .term .now), suffix (s .to) (s .term .now))
-    (first-compared (s .left .now) (s .term .now) (s .table .now) (s .x) (c .before .before .before .before .before .before .before .before .before .before .before .pre .0) _ (c .before .before .before .before .before .before .first-of .ensures) f (s .d) (s .list .now) (s .to))
+    (first-compared (s .left .now) (s .term .now) (s .table .now) (s .x) (start .pre .0) _ (far .first-of .ensures) f (s .d) (s .list .now) (s .to))
 
 pub same-as-first-spec : {M : Type 1} → statement M
 same-as-first-spec =

@@ -15,13 +15,15 @@ write-bodies-requires c κs = let p = c .before .before .before .before .before 
 
 returns : tie.Need-returns
 returns c =
-    let s = c .before .before .before .before .before .before .before .before .before .before .before .before .before .before .before .before .before .before .before .args in
-    rule-fits (s .vars) (s .left .now) (s .term .now) (s .table .now) (c .before .before .before .before .before .before .before .before .before .before .before .before .before .before .before .before .before .before .before .pre .3) (length (s .bodies .now)) _ _ _ (rw (c .before .before .before .before .before .before .before .before .enum-told .given .1) at (c .before .before .before .before .before .before .before .before .before .before .before .before .fit-row .ensures)) _ _ _ (c .before .before .before .before .write-bodies .ensures)
+    let start = c .before .before .before .before .before .before .before .before .before .before .before .before .before .before .before .before .before .before .before in
+    let s = start .args in
+    rule-fits (s .vars) (s .left .now) (s .term .now) (s .table .now) (start .pre .3) (length (s .bodies .now)) _ _ _ (rw (c .before .before .before .before .before .before .before .before .enum-told .given .1) at (c .before .before .before .before .before .before .before .before .before .before .before .before .fit-row .ensures)) _ _ _ (c .before .before .before .before .write-bodies .ensures)
 
 returns-2 : tie.Need-returns-2
 returns-2 c =
-    let s = c .before .before .before .before .before .before .before .before .before .before .before .args in
-    rule-stuck (s .vars) (s .left .now) (s .term .now) (s .table .now) (c .before .before .before .before .before .before .before .before .before .before .before .pre .3) (length (s .bodies .now)) _ (rw (c .enum-told2 .given .1) at (c .before .before .before .before .fit-row .ensures)) _ _ (c .before .before .before .before .before .before .before .before .before .before .before .pre .4) (c .before .before .before .before .before .before .before .before .before .before .before .pre .5)
+    let start = c .before .before .before .before .before .before .before .before .before .before .before in
+    let s = start .args in
+    rule-stuck (s .vars) (s .left .now) (s .term .now) (s .table .now) (start .pre .3) (length (s .bodies .now)) _ (rw (c .enum-told2 .given .1) at (c .before .before .before .before .fit-row .ensures)) _ _ (start .pre .4) (start .pre .5)
 
 pub fit-rule-spec : {M : Type 1} → statement M
 fit-rule-spec =

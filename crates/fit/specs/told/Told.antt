@@ -7,12 +7,12 @@ use mathlib.Core.Option.{Option, none, some}
 use lib.Dec.{eqb}
 use lib.ListN.{length, take, drop, getD, set, replicate}
 use Rattle.term.specs.Word.{Head, symbol, abstraction, variable, pattern, pick, count, countOf, InTable}
-use Rattle.term.specs.Row.{Row, nothing, node, width, words, kinds, nesting, Formed}
+use Rattle.term.specs.Row.{Row, nothing, node, width, words, ranks, nesting, Formed}
 use Rattle.term.specs.Renumber.{GoodList}
 use Rattle.term.specs.declared.answer.Answer.{Answer}
-use Rattle.term.specs.declared.renumber.Step.{Step}
-use Rattle.term.specs.declared.renumber.Step.the-variants as step
-use Rattle.term.specs.Part.{bodyOf, sameWords}
+use Rattle.term.specs.declared.renumber.Passed.{Passed}
+use Rattle.term.specs.declared.renumber.Passed.the-variants as step
+use Rattle.term.specs.Part.{bodyOf, sameWords, partEnd}
 use Rattle.book.specs.Rule.{idsOf}
 use Rattle.fit.specs.declared.fitting.First.{First}
 use Rattle.fit.specs.declared.fitting.Both.{Both}
@@ -20,7 +20,7 @@ use Rattle.fit.specs.declared.fitting.Both.the-variants.{Done, Stuck}
 use Rattle.fit.specs.Left.{Left, leftOf, occurs}
 use Rattle.fit.specs.Fit.{Found, found, bodyIn, allSame, matching}
 use Rattle.fit.specs.Match.{fitted, fittedO, matchAnswer, matchWords, matchLengths}
-use Rattle.book.specs.Ids.{listIn}
+use Rattle.book.specs.told.Ids.{listIn}
 
 -- ---- a row of a left side, in the words of a book
 unfoldable pub LeftRow : ℕ → ℕ → Row → Type 0
@@ -39,7 +39,7 @@ pub record LeftStands (vars d levels count : ℕ) (left : List ℕ) (at : ℕ) (
 
 pub record TermStands (count : ℕ) (term : List ℕ) (at : ℕ) (t : Row) (after : List ℕ) : Type 0 where
   pub formed : Formed t
-  pub few : kinds t ≤ 2
+  pub few : ranks t ≤ 2
   pub low : nesting t ≤ 64
   pub wide : width t ≡ count
   pub same : drop at term ≡ words t ++ after
@@ -107,9 +107,19 @@ FitTold vars d levels count left at term to table done Stuck =
 abbrev pub VariableTold : ℕ → ℕ → List ℕ → ℕ → List ℕ → ℕ → List ℕ → List ℕ → Both → Type 0
 VariableTold vars d left at term to table done r = (levels : ℕ) → FitTold vars d levels 1 left at term to table done r
 
+-- the same once its list was read: the part has a body, and shares it with the first occurrence of its variable
+abbrev pub sharedEnds : List ℕ → ℕ → List ℕ → ℕ → Bool → Both
+sharedEnds left at term to true = Done (at + 1 + countOf (getD left at 0)) (to + partEnd (drop to term))
+sharedEnds left at term to false = Stuck
+
+pub record SharesTold (d : ℕ) (left : List ℕ) (at : ℕ) (term : List ℕ) (to : ℕ) (ys table done : List ℕ) (r : Bool) : Type 0 where
+  pub inside : r ≡ true → partEnd (drop to term) ≤ length (drop to term)
+  pub told : (vars : ℕ) → vars ≤ 16 → listIn (countOf (getD left at 0)) (drop (at + 1) left) ≡ some ys
+      → VariableTold vars d left at term to table done (sharedEnds left at term to r)
+
 -- ---- the bodies of the variables, in order, as the table has them
 -- the body of one variable in a lent slice, zeros after it; Stuck where there is no room for it
-unfoldable pub FirstWritten : List ℕ → List ℕ → List ℕ → ℕ → List ℕ → List ℕ → Step → Type 0
+unfoldable pub FirstWritten : List ℕ → List ℕ → List ℕ → ℕ → List ℕ → List ℕ → Passed → Type 0
 FirstWritten left term table x out done (step.Done n) =
     (n ≤ length out) × (n ≤ length term)
     × ((l : Found) → Knows left term table l → present x l ≡ true → (n ≡ length (words (bodyIn l x))) × (done ≡ words (bodyIn l x) ++ replicate (length out - n) 0))
