@@ -23,14 +23,14 @@ use Rattle.fit.proofs.Laws.{GoodRule, isMatch, fits-constraints, accepted-good,
 use Rattle.tree.specs.Path.{childrenFrom, root, start}
 use Rattle.tree.specs.Rows.{RuleRow, subsUnder, constraintsLeft}
 use Rattle.tree.specs.Compile.{compile, rowThen, bookRows, bookTree}
-use Rattle.tree.specs.Find.{rootPart, bodyOr, find}
+use Rattle.tree.specs.Find.{rootPart, bodyOr}
 use Rattle.tree.proofs.Subs.{from-start, subs-root, good-full}
 use Rattle.tree.proofs.Parts.{depthUnder, depthAt, partsAt, DepthIs, depths-are}
 use Rattle.tree.proofs.Fits.{openFits, children-open}
 use Rattle.tree.proofs.Holds.{allIn, ListIs, lists-are, unstruck-none, body-there, all-is}
 use Rattle.tree.proofs.Covers.{start-covered}
 use Rattle.tree.proofs.Firsts.{Live, AllLive, rowFits, firstBody, rowBodies, orFirst, fitting, firstFit}
-use Rattle.tree.proofs.Finds.{find-first}
+use Rattle.tree.proofs.Finds.{find, find-first}
 
 -- each row is a good rule
 abbrev pub AllGood : List RuleRow → Type 0

@@ -18,7 +18,8 @@ use Rattle.fit.specs.Lowest.{Fitting}
 use Rattle.tree.specs.Path.{placeNumbered, numberIn, childrenFrom, marked, enter}
 use Rattle.tree.specs.Rows.{sub, below, subsUnder, subAt, headAt, lowestOpen, isIn, among, sameConstraint, has, unstruck, constraintsLeft, wordsOf, wordsLeft, size}
 use Rattle.tree.specs.Compile.{without, heads, caseRows, defaultRows, entering, holding, rowsWithout, testOf, variablesFrom, leafOf, casesOf, nodeOf, step, compileBy, compile, bookRows, bookTree}
-use Rattle.tree.specs.Find.{rootPart, partOf, markedPart, childParts, insideOf, enterPart, bodyFor, leafBody, find, findCase}
+use Rattle.tree.specs.Find.{rootPart, partOf, markedPart, childParts, insideOf, enterPart, bodyFor, leafBody}
+use Rattle.tree.proofs.Finds.{find, findCase}
 use Rattle.tree.specs.Layout.{variableWords, caseCount, long, longCases, caseHeads, layout, layoutCases}
 
 -- book A's tree has 51 words, and begins as document 01 says

@@ -13,7 +13,7 @@ use Rattle.term.proofs.Laws.{never}
 use Rattle.fit.specs.Left.{Left, end, hole, part, wide}
 use Rattle.fit.specs.Constraint.{Place, occurrences}
 use Rattle.fit.proofs.Laws.{wide-hole, wide-part, occurrences-end, occurrences-hole, occurrences-part, Each, each-join}
-use Rattle.tree.specs.Covered.{Within, Waiting, Covered}
+use Rattle.tree.specs.told.Covered.{Within, Waiting, Covered}
 use Rattle.tree.specs.Path.{Uncovered, placeNumbered, childrenFrom, marked, enter, root}
 use Rattle.tree.specs.Rows.{subsUnder, subAt, headHere, headAt, lowestOpen}
 use Rattle.tree.proofs.Subs.{subsFrom, from-hole, from-part, from-start, sub-child, head-sub, headed-below}

@@ -9,8 +9,8 @@ use Rattle.term.specs.Word.{pick}
 use Rattle.term.specs.Part.{sameWords}
 use Rattle.term.proofs.Laws.{never, same-words, words-same}
 use Rattle.fit.specs.Constraint.{Place}
+use Rattle.tree.specs.told.Covered.{nextOr, numberedAs, isOpen}
 use Rattle.tree.specs.Path.{Uncovered, placeNumbered, childrenFrom, marked, enter}
-use Rattle.tree.specs.Stands.{nextOr, numberedAs, isOpen}
 
 -- ---- numbers of places
 numbered-marked : (p : Place) (us : List Uncovered) (n : ℕ) → numberedAs p (marked n us) ≡ numberedAs p us

@@ -8,8 +8,8 @@ use native.Mathlib.Decide.{decLe}
 use lib.ListN.{length}
 use Rattle.term.proofs.Laws.{never}
 use Rattle.fit.specs.Constraint.{Place}
+use Rattle.tree.specs.told.Covered.{numberedAs, isOpen}
 use Rattle.tree.specs.Path.{Uncovered, placeNumbered, enter}
-use Rattle.tree.specs.Stands.{numberedAs, isOpen}
 use Rattle.tree.proofs.Bounds.{length-enter}
 use Rattle.tree.proofs.EnteredPath.{child-number, open-within, enter-old, enter-other, enter-place, enter-new, enter-keeps, enter-shuts}
 

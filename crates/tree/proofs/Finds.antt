@@ -9,16 +9,17 @@ use lib.Dec.{eqb, ltb}
 use borrow.Author.Tests.{lt-ltb, le-ltb, ltb-true, ltb-false}
 use Rattle.term.specs.Word.{Head, word, count, pick, InTable}
 use Rattle.term.specs.Row.{Row, nothing, Formed}
+use Rattle.term.specs.Part.{isSome, sameO}
 use Rattle.fit.specs.Left.{part}
 use Rattle.fit.specs.Constraint.{Place, treeAt, isHead, Occurrence, occurrences, firstOf, Constraint, closedAt, sameAt, constraints}
 use Rattle.fit.specs.Lowest.{Fitting}
 use Rattle.fit.proofs.Laws.{Each, first-each, IsThere, Names, EachNames, constraints-name}
-use Rattle.tree.specs.Tree.{Tree, Switch}
-use Rattle.tree.specs.Covered.{Within}
+use Rattle.tree.specs.Tree.{Tree, Fail, Leaf, Switch, Closed, Same, Cases, NoCase, Case}
+use Rattle.tree.specs.told.Covered.{Within}
 use Rattle.tree.specs.Path.{Uncovered, OnPath, placeNumbered, enter}
 use Rattle.tree.specs.Rows.{RuleRow, subsUnder, headAt, lowestOpen, constraintsLeft, size}
 use Rattle.tree.specs.Compile.{without, addHead, heads, caseRows, defaultRows, entering, holding, rowsWithout, testOf, variableAt, variablesFrom, leafOf, casesOf, nodeOf, step, compile}
-use Rattle.tree.specs.Find.{PartAt, partOf, enterPart, bodyFor, bodyOr, leafBody, find, findCase}
+use Rattle.tree.specs.Find.{PartAt, partOf, enterPart, bodyFor, bodyOr, leafBody}
 use Rattle.tree.proofs.Subs.{from-start, subs-root, head-headed, Full, full-at}
 use Rattle.tree.proofs.Parts.{partsAt, part-of, enter-parts, body-number}
 use Rattle.tree.proofs.Fits.{OpenAt, open-at, variables-fit}
@@ -27,6 +28,20 @@ use Rattle.tree.proofs.Sizes.{case-less, default-less, yes-less, no-les
 use Rattle.tree.proofs.Knot.{compile-is}
 use Rattle.tree.proofs.Covers.{all-within}
 use Rattle.tree.proofs.Firsts.{Live, AllLive, rowFits, firstBody, rowBodies, fitting, firstFit, live-case, first-case, NoHead, live-default, first-default, first-yes, live-without, first-no}
+
+-- ---- what a tree finds in a term: the rule and its bodies, or none
+-- "A Switch takes the first case whose head is the term's word there, else the default. Closed says yes when the body exists, Same when both bodies exist and are equal."
+unfoldable mutual
+  pub find : Tree → List PartAt → Option Fitting
+  find Fail ps = none
+  find (Leaf rule vs) ps = some (record { number = rule; bodies = leafBody ps vs })
+  find (Switch n cs default) ps = findCase cs n ps (find default ps)
+  find (Closed n ys ifYes ifNo) ps = pick (isSome (bodyFor ps n ys)) (find ifYes ps) (find ifNo ps)
+  find (Same n m ys zs ifYes ifNo) ps = pick (sameO (bodyFor ps n ys) (bodyFor ps m zs)) (find ifYes ps) (find ifNo ps)
+
+  pub findCase : Cases → ℕ → List PartAt → Option Fitting → Option Fitting
+  findCase NoCase n ps other = other
+  findCase (Case h x cs) n ps other = pick (isHead h (partOf n ps .part)) (find x (enterPart n ps)) (findCase cs n ps other)
 
 -- ---- Leaf: each variable has the body at its first occurrence
 abbrev pub AllWithin : List Uncovered → List Occurrence → Type 0

@@ -13,7 +13,7 @@ use Rattle.fit.specs.Left.{Left, part, wide}
 use Rattle.fit.specs.Constraint.{Place, treeAt, isHead, Occurrence, occurrences, firstOf, Constraint, constraints}
 use Rattle.fit.specs.Lowest.{Fitting}
 use Rattle.fit.proofs.Laws.{IsThere, Names, EachNames}
-use Rattle.tree.specs.Covered.{Covered}
+use Rattle.tree.specs.told.Covered.{Covered}
 use Rattle.tree.specs.Path.{Uncovered, OnPath, placeNumbered, enter}
 use Rattle.tree.specs.Rows.{RuleRow, subsUnder, subAt, headHere, headAt, has, unstruck, constraintsLeft}
 use Rattle.tree.specs.Compile.{without, addHead, heads, inCase, caseRows, inDefault, defaultRows, entering, holding, rowsWithout}

@@ -8,8 +8,7 @@ use lib.Seq.{drop-drop, drop-append-seam}
 use Rattle.term.specs.Word.{Head, word}
 use Rattle.tree.specs.Tree.{LeafVariable, Tree, Fail, Leaf, Switch, Closed, Same, Cases, NoCase, Case}
 use Rattle.tree.specs.Compile.{bookTree}
-use Rattle.tree.specs.Compiled.{treeWords}
-use Rattle.tree.specs.Layout.{variableWords, caseCount, long, longCases, caseHeads, layout, layoutCases}
+use Rattle.tree.specs.Layout.{treeWords, variableWords, caseCount, long, longCases, caseHeads, layout, layoutCases}
 
 -- ---- clauses
 pub variables-none : variableWords [] ≡ []
@@ -35,6 +34,37 @@ heads-none at = refl
 pub heads-case : (at : ℕ) (h : Head) (x : Tree) (cs : Cases) → caseHeads at (Case h x cs) ≡ word h ∷ at ∷ caseHeads (at + long x) cs
 unfolding caseHeads
 heads-case at h x cs = refl
+
+pub leaf-laid : (at number : ℕ) (vs : List LeafVariable) → layout at (Leaf number vs) ≡ 1 ∷ number ∷ length vs ∷ variableWords vs
+unfolding layout
+leaf-laid at number vs = refl
+
+pub fail-long : long Fail ≡ 1
+unfolding long
+fail-long = refl
+
+pub fail-layout : (at : ℕ) → layout at Fail ≡ 0 ∷ []
+unfolding layout
+fail-layout at = refl
+
+pub no-case : (a : ℕ) → (longCases NoCase ≡ 0) × (caseHeads a NoCase ≡ []) × (layoutCases a NoCase ≡ [])
+unfolding long caseHeads layout
+no-case a = (refl, refl, refl)
+
+pub one-case : (a : ℕ) (h : Head) (x : Tree) (cs : Cases)
+    → (longCases (Case h x cs) ≡ long x + longCases cs) × (caseHeads a (Case h x cs) ≡ word h ∷ a ∷ caseHeads (a + long x) cs) × (layoutCases a (Case h x cs) ≡ layout a x ++ layoutCases (a + long x) cs)
+unfolding long caseHeads layout
+one-case a h x cs = (refl, refl, refl)
+
+pub switch-long : (n : ℕ) (cs : Cases) (d : Tree) → long (Switch n cs d) ≡ 4 + 2 * caseCount cs + longCases cs + long d
+unfolding long
+switch-long n cs d = refl
+
+pub switch-laid : (at n : ℕ) (cs : Cases) (d : Tree)
+    → layout at (Switch n cs d)
+    ≡ 2 ∷ n ∷ caseCount cs ∷ (caseHeads (at + 4 + 2 * caseCount cs) cs ++ ((at + 4 + 2 * caseCount cs + longCases cs) ∷ (layoutCases (at + 4 + 2 * caseCount cs) cs ++ layout (at + 4 + 2 * caseCount cs + longCases cs) d)))
+unfolding layout
+switch-laid at n cs d = refl
 
 pub length-heads : (at : ℕ) (cs : Cases) → length (caseHeads at cs) ≡ 2 * caseCount cs
 unfolding caseHeads caseCount

@@ -16,7 +16,7 @@ use Rattle.fit.specs.Left.{Left, end, hole, part}
 use Rattle.fit.specs.Constraint.{Place, Occurrence, occurrences, tree, childrenOf, under, treeAt, isHead, shapeFits, bodyHere}
 use Rattle.fit.proofs.Laws.{from, at-from, from-first, under-child, at-root, at-child, children-node, head-nothing, shape-hole, shape-part, occurrences-end, occurrences-hole, occurrences-part, Each, each-join}
 use Rattle.term.proofs.Laws.{and-left, and-right}
-use Rattle.tree.specs.Covered.{Within}
+use Rattle.tree.specs.told.Covered.{Within}
 use Rattle.tree.specs.Path.{Uncovered, placeNumbered, numberIn, childrenFrom, marked, enter}
 use Rattle.tree.specs.Find.{PartAt, partOf, markedPart, childParts, insideOf, enterPart, bodyFor}
 use Rattle.tree.proofs.Basics.{head-is, head-here, formed-at}

@@ -10,7 +10,7 @@ use Rattle.term.specs.Word.{Head}
 use Rattle.term.specs.Row.{Row, nothing, node, words}
 use Rattle.term.specs.Renumber.{GoodList}
 use Rattle.term.specs.Part.{isSome}
-use Rattle.term.proofs.Laws.{never, words-nothing, words-node, width-nothing, width-node, nesting-nothing, nesting-node, kinds-nothing, kinds-node, formed-nothing, formed-node, node-formed, body-keeps, body-formed}
+use Rattle.term.proofs.Laws.{never, words-nothing, words-node, width-nothing, width-node, nesting-nothing, nesting-node, ranks-nothing, ranks-node, formed-nothing, formed-node, node-formed, body-keeps, body-formed}
 use Rattle.fit.specs.Fit.{IsBody}
 use Rattle.fit.specs.Constraint.{childrenOf, bodyHere}
 use Rattle.fit.proofs.Laws.{WithinTerm, children-nothing, children-node, body-nothing, body-node}
@@ -37,7 +37,7 @@ long-node h kids rest = ap length (words-node h kids rest) ∙ ap suc (length-ap
 nothing-within : WithinTerm nothing
 nothing-within =
     let z : length (words nothing) ≡ 0 = ap length words-nothing in
-    record { formed = formed-nothing; few = omega (arith, kinds-nothing); low = omega (arith, nesting-nothing); short = omega (arith, z) }
+    record { formed = formed-nothing; few = omega (arith, ranks-nothing); low = omega (arith, nesting-nothing); short = omega (arith, z) }
 
 first-term : (h : Head) (kids rest : Row) → WithinTerm (node h kids rest) → IsBody (node h kids nothing)
 first-term h kids rest w =
@@ -46,7 +46,7 @@ first-term h kids rest w =
     record {
       one = width-node h kids nothing ∙ ap suc width-nothing;
       formed = node-formed h kids nothing (record { table = n .table; full = n .full; below = n .below; beside = formed-nothing });
-      few = omega (arith, kinds-node h kids rest, kinds-node h kids nothing, kinds-nothing, w .few);
+      few = omega (arith, ranks-node h kids rest, ranks-node h kids nothing, ranks-nothing, w .few);
       low = omega (arith, nesting-node h kids rest, nesting-node h kids nothing, nesting-nothing, w .low);
       short = omega (arith, long-node h kids rest, long-node h kids nothing, z, w .short);
     }
@@ -55,7 +55,7 @@ others-within : (h : Head) (kids rest : Row) → WithinTerm (node h kids rest) �
 others-within h kids rest w =
     record {
       formed = formed-node h kids rest (w .formed) .beside;
-      few = omega (arith, kinds-node h kids rest, w .few);
+      few = omega (arith, ranks-node h kids rest, w .few);
       low = omega (arith, nesting-node h kids rest, w .low);
       short = omega (arith, long-node h kids rest, w .short);
     }
@@ -66,7 +66,7 @@ children-within (node h kids rest) i =
     rw (children-node h kids rest)
     (record {
       formed = formed-node h kids rest (i .formed) .below;
-      few = omega (arith, kinds-node h kids rest, i .few);
+      few = omega (arith, ranks-node h kids rest, i .few);
       low = omega (arith, nesting-node h kids rest, i .low);
       short = omega (arith, long-node h kids rest, i .short);
     })
@@ -115,7 +115,7 @@ body-here d ys g (node h kids rest) i b e =
     record {
       one = k .wide ∙ i .one;
       formed = body-formed d ys g (node h kids rest) b (i .formed) (i .low) q;
-      few = omega (arith, k .kind, i .few);
+      few = omega (arith, k .rank, i .few);
       low = omega (arith, k .deep, i .low);
       short = omega (arith, k .long, i .short);
     }

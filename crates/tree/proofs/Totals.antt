@@ -10,12 +10,7 @@ use Rattle.term.specs.Row.{Row, nothing, node, width, words}
 use Rattle.term.proofs.Laws.{never, words-nothing, words-node, width-nothing, width-node}
 use Rattle.fit.specs.Constraint.{childrenOf}
 use Rattle.fit.proofs.Laws.{children-node}
-use Rattle.tree.specs.Find.{PartAt, rootPart, partOf, markedPart, childParts, insideOf, enterPart}
-
--- the places, and the words below those that were not entered
-unfoldable pub total : List PartAt → ℕ
-total [] = 0
-total (p ∷ ps) = suc (pick (p .entered) 0 (length (words (childrenOf (p .part))))) + total ps
+use Rattle.tree.specs.Find.{PartAt, rootPart, partOf, markedPart, childParts, insideOf, enterPart, total}
 
 pub length-total : (ps : List PartAt) → length ps ≤ total ps
 unfolding total

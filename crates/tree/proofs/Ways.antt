@@ -21,7 +21,7 @@ use Rattle.fit.specs.Match.{leftIn}
 use Rattle.fit.specs.Lowest.{Fitting, lowest}
 use Rattle.fit.proofs.Laws.{GoodRule, isMatch, Each, first-each, IsThere, Names, EachNames, constraints-name, FirstBody, matched-first, accepted-good, occurs-first, OneVariable, constraints-one, first-variable, Counted, rule-counted}
 use Rattle.tree.specs.Tree.{countsOf, Tree, Switch, Case}
-use Rattle.tree.specs.Covered.{Within}
+use Rattle.tree.specs.told.Covered.{Within}
 use Rattle.tree.specs.Path.{Uncovered, OnPath, placeNumbered, numberIn, start}
 use Rattle.tree.specs.Rows.{RuleRow, headAt, lowestOpen, has, unstruck, constraintsLeft, size}
 use Rattle.tree.specs.Compile.{heads, inCase, caseRows, inDefault, defaultRows, entering, holding, rowsWithout, testOf, variableAt, variablesFrom, leafOf, casesOf, nodeOf, step, compile, rowThen, bookRows, bookTree}

@@ -1,15 +1,14 @@
--- What a tree finds in a term: the rule and its bodies, or none. The places uncovered so far are carried from node to node.
-use Prim.Native.Nat.{ℕ, zero, suc}
+-- What a walk through a tree carries from node to node: the parts of the term at the places uncovered so far, and what stands there.
+use Prim.Native.Nat.{ℕ, zero, suc, _+_}
 use mathlib.Core.Bool.{Bool, true, false}
 use mathlib.Core.List.{List, [], _∷_, _++_}
 use mathlib.Core.Option.{Option, none, some}
+use lib.ListN.{length}
 use Rattle.term.specs.Word.{pick}
-use Rattle.term.specs.Row.{Row, nothing, node}
+use Rattle.term.specs.Row.{Row, nothing, node, words}
 use Rattle.term.specs.Renumber.{inside}
-use Rattle.term.specs.Part.{isSome, sameO}
-use Rattle.fit.specs.Constraint.{childrenOf, isHead, bodyHere}
-use Rattle.fit.specs.Lowest.{Fitting}
-use Rattle.tree.specs.Tree.{LeafVariable, Tree, Fail, Leaf, Switch, Closed, Same, Cases, NoCase, Case}
+use Rattle.fit.specs.Constraint.{childrenOf, bodyHere}
+use Rattle.tree.specs.Tree.{LeafVariable}
 
 -- the part of the term at an uncovered place, the abstractions passed on the way to it, and whether it was entered
 pub record PartAt : Type 0 where
@@ -58,15 +57,7 @@ leafBody ps [] x = nothing
 leafBody ps (v ∷ vs) zero = bodyOr (bodyFor ps (v .at) (v .list))
 leafBody ps (v ∷ vs) (suc x) = leafBody ps vs x
 
--- "A Switch takes the first case whose head is the term's word there, else the default. Closed says yes when the body exists, Same when both bodies exist and are equal."
-unfoldable mutual
-  pub find : Tree → List PartAt → Option Fitting
-  find Fail ps = none
-  find (Leaf rule vs) ps = some (record { number = rule; bodies = leafBody ps vs })
-  find (Switch n cs default) ps = findCase cs n ps (find default ps)
-  find (Closed n ys ifYes ifNo) ps = pick (isSome (bodyFor ps n ys)) (find ifYes ps) (find ifNo ps)
-  find (Same n m ys zs ifYes ifNo) ps = pick (sameO (bodyFor ps n ys) (bodyFor ps m zs)) (find ifYes ps) (find ifNo ps)
-
-  pub findCase : Cases → ℕ → List PartAt → Option Fitting → Option Fitting
-  findCase NoCase n ps other = other
-  findCase (Case h x cs) n ps other = pick (isHead h (partOf n ps .part)) (find x (enterPart n ps)) (findCase cs n ps other)
+-- the places, and the words below those that were not entered
+unfoldable pub total : List PartAt → ℕ
+total [] = 0
+total (p ∷ ps) = suc (pick (p .entered) 0 (length (words (childrenOf (p .part))))) + total ps

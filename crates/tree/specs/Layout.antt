@@ -4,6 +4,7 @@ use mathlib.Core.List.{List, [], _∷_, _++_}
 use lib.ListN.{length}
 use Rattle.term.specs.Word.{word}
 use Rattle.tree.specs.Tree.{LeafVariable, Tree, Fail, Leaf, Switch, Closed, Same, Cases, NoCase, Case}
+use Rattle.tree.specs.Compile.{bookTree}
 
 -- for each variable, in order, the place, k, the list
 unfoldable pub variableWords : List LeafVariable → List ℕ
@@ -50,3 +51,7 @@ unfoldable mutual
   pub layoutCases : ℕ → Cases → List ℕ
   layoutCases at NoCase = []
   layoutCases at (Case h x cs) = layout at x ++ layoutCases (at + long x) cs
+
+-- the words of a book's tree
+unfoldable pub treeWords : List ℕ → List ℕ
+treeWords book = layout 0 (bookTree book)

@@ -4,9 +4,4 @@ pub mod Rows
 pub mod Compile
 pub mod Find
 pub mod Layout
-pub mod Compiled
-pub mod Tables
-pub mod Covered
-pub mod Stands
-pub mod Loaded
-pub mod NodeTold
+pub mod told

@@ -1,9 +1,2 @@
-// The tree: document 01's "The tree".
-pub mod compile;
-mod constraints;
-mod heads;
-mod load;
-mod nodes;
-mod numbers;
-mod table;
-mod words;
+// The tree: document 01's "The tree". What the compiler and the walk share.
+pub mod node;

@@ -1,0 +1,53 @@
+-- `constraints::having_mark` meets its contract: its tests are the definition's.
+use borrow.Author.Needs.{needs}
+use native.Mathlib.Omega.{arith}
+use mathlib.Core.Path.{_≡_, refl, sym, ap, _∙_}
+use Rattle.compiler.specs.told.Tables.{rowHas}
+use Rattle.compiler.proofs.TableLaws.{struck-stays, struck-now, struck-not}
+use Rattle.compiler.proofs.constraints.having_mark.Statement.{statement}
+use Rattle.compiler.proofs.constraints.having_mark.Tie as tie
+
+shared-slice-read-if1 : tie.Need-shared-slice-read-if1
+shared-slice-read-if1 c =
+    let start = c .before .before .before .before in
+    omega (arith, start .pre .2, start .pre .5)
+
+shared-slice-read-result : tie.Need-shared-slice-read-result
+shared-slice-read-result c =
+    let start = c .before .before .before .before .before .before in
+    omega (arith, start .pre .2, start .pre .5)
+
+returns : tie.Need-returns
+returns c =
+    let start = c .before .before .before .before .before .before in
+    struck-stays (rowHas (start .args .fixed .now) (start .args .nums .now) (start .args .marks .now) (start .args .id)) (start .args .mark) (start .args .r) _ (c .before .if1 .taken)
+
+returns-2 : tie.Need-returns-2
+returns-2 c =
+    let start = c .before .before .before .before .before .before .before in
+    struck-now (rowHas (start .args .fixed .now) (start .args .nums .now) (start .args .marks .now) (start .args .id)) (start .args .mark) (start .args .r) _ (start .pre .5) (c .before .before .if1 .left) (sym (c .before .row-has .ensures) ∙ c .if2 .taken)
+
+shared-slice-read-result-2 : tie.Need-shared-slice-read-result-2
+shared-slice-read-result-2 c =
+    let start = c .before .before .before .before .before .before .before .before in
+    omega (arith, start .pre .2, start .pre .5)
+
+returns-3 : tie.Need-returns-3
+returns-3 c =
+    let start = c .before .before .before .before .before .before .before .before in
+    struck-not (rowHas (start .args .fixed .now) (start .args .nums .now) (start .args .marks .now) (start .args .id)) (start .args .mark) (start .args .r) _ (c .before .before .before .if1 .left) (sym (c .before .before .row-has .ensures) ∙ c .before .if2 .left)
+
+pub having-mark-spec : {M : Type 1} → statement M
+having-mark-spec =
+    tie.close
+    (tie.spec
+    (λ c. search needs)
+    shared-slice-read-if1
+    (λ c. search needs)
+    shared-slice-read-result
+    returns
+    (λ c κs. search needs)
+    returns-2
+    (λ c. search needs)
+    shared-slice-read-result-2
+    returns-3)

@@ -1,0 +1,9 @@
+// The compiler: from a book to its tree.
+pub mod compile;
+mod constraints;
+mod heads;
+mod load;
+mod nodes;
+mod numbers;
+mod table;
+mod words;

@@ -1,0 +1,92 @@
+// The compiler's tables. A spot is a word of a left side: the spots of rule r are r * SIDE and the next. A mark that is not FREE says who set it.
+ghost use mathlib.Core.Path.{_≡_};
+ghost use lib.Dec.{eqb, ltb};
+ghost use lib.ListN.{length};
+ghost use Rattle.term.specs.Word.{pick};
+ghost use Rattle.compiler.specs.told.Tables.{Changed, unmarked, forgotten, firstRow};
+
+// A book has at most so many rules, and a left side so many words.
+pub const RULES: usize = 64;
+
+pub const SIDE: usize = 64;
+
+pub const SPOTS: usize = 4096;
+
+// The fixed table: the word of each spot, the abstractions passed there, and for each rule how many variables it has.
+pub const DEPTHS: usize = 4096;
+
+pub const VARS: usize = 8192;
+
+pub const FIXED: usize = 8256;
+
+// The marks: the rows that are struck, the places that are entered, the spots whose closedness is struck, and those whose equality is.
+pub const ENTERED: usize = 64;
+
+pub const CLOSED_MARKS: usize = 4160;
+
+pub const SAME_MARKS: usize = 8256;
+
+pub const MARKS: usize = 12352;
+
+pub const FREE: u32 = 0;
+
+// The mark of a row that no rule of the book is.
+pub const ABSENT_ROW: u32 = 1;
+
+// Symbols and abstractions are the words below this one, which says that there is no head.
+pub const NO_HEAD: u32 = 33554432;
+
+fn without_mark(x: u32, mark: u32) -> u32
+    ensures { λ r. ⌜ r ≡ pick (eqb x mark) 0 x ⌝ }
+{
+    if x == mark {
+        return FREE;
+    }
+    x
+}
+
+fn up_to(x: u32, count: u32) -> u32
+    ensures { λ r. ⌜ r ≡ pick (ltb count x) 0 x ⌝ }
+{
+    if count < x {
+        return FREE;
+    }
+    x
+}
+
+// Takes a mark away wherever it stands.
+pub fn unmark(marks: &mut [u32], mark: u32)
+    ensures { λ _. ⌜ Changed (unmarked mark) (now (marks .entry)) (now (marks .exit)) ⌝ }
+{
+    let mut i: usize = 0;
+    while i < marks.len() {
+        marks[i] = without_mark(marks[i], mark);
+        i += 1;
+    }
+}
+
+// Takes the numbers over `count` away: the places that have them are no longer uncovered.
+pub fn forget(nums: &mut [u32], count: u32)
+    ensures { λ _. ⌜ Changed (forgotten count) (now (nums .entry)) (now (nums .exit)) ⌝ }
+{
+    let mut i: usize = 0;
+    while i < nums.len() {
+        nums[i] = up_to(nums[i], count);
+        i += 1;
+    }
+}
+
+// The first row that is not struck, RULES where there is none.
+pub fn first_row(marks: &[u32]) -> usize
+    requires { ⌜ length (now marks) ≡ 12352 ⌝ }
+    ensures { λ r. ⌜ r ≡ firstRow (now (marks .entry)) ⌝ }
+{
+    let mut r: usize = 0;
+    while r < RULES {
+        if marks[r] == FREE {
+            return r;
+        }
+        r += 1;
+    }
+    RULES
+}
