@@ -13,7 +13,7 @@ use Rattle.term.specs.Part.{hasBody, sameBody}
 use Rattle.walk.specs.Walk.{caseOf}
 use Rattle.walk.specs.declared.taken.Taken.{Taken}
 use Rattle.walk.specs.declared.taken.Taken.the-variants.{To, Not}
-use Rattle.walk.specs.Taken.{addressOf, CaseTold, closedTaken, sameTaken}
+use Rattle.walk.specs.told.Taken.{addressOf, CaseTold, closedTaken, sameTaken}
 
 -- a part of the table, as it is lent
 pub lent : (table : List ℕ) (from k : ℕ) → take (from + k - from) (drop from table) ≡ take k (drop from table)

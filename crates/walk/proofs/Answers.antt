@@ -1,5 +1,5 @@
 -- What matching by the tree answers and leaves, way by way: the term, the length of the tree, and then how the walk ended.
-use mathlib.Core.Path.{_≡_, refl, sym, ap₂, _∙_}
+use mathlib.Core.Path.{_≡_, refl, sym, _∙_}
 use mathlib.Core.Bool.{Bool, true, false}
 use mathlib.Core.List.{List}
 use Prim.Native.Nat.{ℕ, zero, suc, _+_, _≤_, _<_}
@@ -8,20 +8,21 @@ use lib.ListN.{length, getD, replicate, drop, length-drop}
 use lib.Seq.{drop-drop}
 use borrow.Author.Tests.{le-leb, lt-leb}
 use Rattle.term.specs.declared.check.Checked.the-variants.{Good, Bad}
-use Rattle.term.specs.declared.answer.Answer.{Answer}
 use Rattle.term.specs.declared.answer.Answer.the-variants as answer
+use Rattle.term.specs.Answer.{answered}
 use Rattle.term.specs.Row.{Row, nothing, words, width}
 use Rattle.term.specs.Check.{IsTerm, check, termLimits}
 use Rattle.term.proofs.Laws.{good-tree, term-part, part-begins, words-node}
-use Rattle.fit.specs.Match.{treeOf, matchAnswer, matchWords, matchLengths}
+use Rattle.fit.specs.Match.{treeOf, refused}
 use Rattle.fit.proofs.Laws.{tree-of, refused-leaves}
 use Rattle.tree.specs.Find.{rootPart}
 use Rattle.walk.specs.Walk.{NoneFits, DamagedAt, walkFrom, walk, noBook}
 use Rattle.walk.specs.declared.state.Walk.{Walk}
 use Rattle.walk.specs.declared.by_tree.TreeMatch.{TreeMatch}
-use Rattle.walk.specs.State.{partFrom, placesOf, Parted, Holds, leafRule, LeafSound, LeafFound, Stood, Standing, WalkTold, LeafWritten}
-use Rattle.walk.specs.ByTree.{matchTree, matchTreeRule, WalkedTold, walkedHere}
+use Rattle.walk.specs.told.State.{partFrom, placesOf, Parted, Holds, leafRule, LeafSound, LeafFound, Stood, Standing, WalkTold, walkedHere, walkedGives, LeafWritten}
+use Rattle.walk.specs.ByTree.{matchTree, matchTreeRule, MatchTreeOutcome, matchTreeCame, matchTreeGives}
 use Rattle.walk.proofs.Uncovered.{one-tree}
+use Rattle.walk.proofs.Outcomes.{rule-came}
 
 -- ---- how the walk ended
 module _ (table term : List ℕ) (s : Walk) (t : WalkTold table term s) where
@@ -69,22 +70,22 @@ module _ (table term : List ℕ) (s : Walk) (t : WalkTold table term s) where
   -- ---- what is answered and left
   module _ (room : ℕ) (bodies lengths : List ℕ) where
     module _ (b : bodies ≡ replicate room 0) (l : lengths ≡ replicate 16 0) where
-      pub match-none : s .stands ≡ 1 → (r : TreeMatch) → r .answer ≡ answer.NoFit → r .rule ≡ 0 → WalkedTold room (walkedHere table term) r bodies lengths
-      unfolding WalkedTold
-      match-none z r a u = let q = refused-leaves room answer.NoFit bodies lengths b l in rw (ended-none z noBook) (a ∙ q .0, q .1, q .2, u)
+      pub match-none : s .stands ≡ 1 → (r : TreeMatch) → r .answer ≡ answer.NoFit → r .rule ≡ 0 → matchTreeCame (answered (r .answer)) (r .rule) bodies lengths ≡ walkedGives room (walkedHere table term)
+      unfolding walkedGives
+      match-none z r a u = let q = refused-leaves room answer.NoFit bodies lengths b l in rw (ended-none z noBook) (rule-came (r .answer) (r .rule) bodies lengths room (refused answer.NoFit) 0 (a ∙ q .0) u (q .1) (q .2))
 
-      pub match-damaged : (s .stands ≡ 1 → ⊥) → (s .stands ≡ 2 → ⊥) → (r : TreeMatch) → r .answer ≡ answer.Damaged (s .at) → r .rule ≡ 0 → WalkedTold room (walkedHere table term) r bodies lengths
-      unfolding WalkedTold
-      match-damaged y z r a u = let q = refused-leaves room (answer.Damaged (s .at)) bodies lengths b l in rw (ended-damaged y z noBook) (a ∙ q .0, q .1, q .2, u)
+      pub match-damaged : (s .stands ≡ 1 → ⊥) → (s .stands ≡ 2 → ⊥) → (r : TreeMatch) → r .answer ≡ answer.Damaged (s .at) → r .rule ≡ 0 → matchTreeCame (answered (r .answer)) (r .rule) bodies lengths ≡ walkedGives room (walkedHere table term)
+      unfolding walkedGives
+      match-damaged y z r a u = let q = refused-leaves room (answer.Damaged (s .at)) bodies lengths b l in rw (ended-damaged y z noBook) (rule-came (r .answer) (r .rule) bodies lengths room (refused (answer.Damaged (s .at))) 0 (a ∙ q .0) u (q .1) (q .2))
 
-    pub match-short : s .stands ≡ 2 → (fits : Bool) → fits ≡ false → LeafWritten table term s room bodies lengths fits → (r : TreeMatch) → r .answer ≡ answer.Short → r .rule ≡ 0 → WalkedTold room (walkedHere table term) r bodies lengths
-    unfolding WalkedTold LeafWritten
-    match-short z fits f w r a u = rw (ended-rule z) (a ∙ rw f at (w .1), w .2, w .3, rw (w .0, f) u)
+    pub match-short : s .stands ≡ 2 → (fits : Bool) → fits ≡ false → LeafWritten table term s room bodies lengths fits → (r : TreeMatch) → r .answer ≡ answer.Short → r .rule ≡ 0 → matchTreeCame (answered (r .answer)) (r .rule) bodies lengths ≡ walkedGives room (walkedHere table term)
+    unfolding walkedGives LeafWritten
+    match-short z fits f w r a u = rw (ended-rule z) (rule-came (r .answer) (r .rule) bodies lengths room _ _ (a ∙ rw f at (w .1)) (rw (w .0, f) u) (w .2) (w .3))
 
     pub match-done : s .stands ≡ 2 → (fits : Bool) → fits ≡ true → LeafWritten table term s room bodies lengths fits → (r : TreeMatch) → r .answer ≡ answer.Done → r .rule ≡ getD table (s .at + 1) 0
-        → WalkedTold room (walkedHere table term) r bodies lengths
-    unfolding WalkedTold LeafWritten
-    match-done z fits f w r a u = rw (ended-rule z) (a ∙ rw f at (w .1), w .2, w .3, rw (w .0, f) u)
+        → matchTreeCame (answered (r .answer)) (r .rule) bodies lengths ≡ walkedGives room (walkedHere table term)
+    unfolding walkedGives LeafWritten
+    match-done z fits f w r a u = rw (ended-rule z) (rule-came (r .answer) (r .rule) bodies lengths room _ _ (a ∙ rw f at (w .1)) (rw (w .0, f) u) (w .2) (w .3))
 
 -- ---- the words of a term from an offset on
 pub tail-parted : (ws : List ℕ) → IsTerm ws → (at : ℕ) → Parted (drop at ws)
@@ -117,30 +118,17 @@ module _ (table ws : List ℕ) (room : ℕ) where
     unfolding walk
     walk-here l = rw (le-leb (length table) 16384 l, part-tree)
 
-    pub match-walked : length table ≤ 16384 → (r : TreeMatch) (bodies lengths : List ℕ) → WalkedTold room (walkedHere table ws) r bodies lengths
-        → (r .answer ≡ matchAnswer room (matchTree table ws)) × (bodies ≡ matchWords room (matchTree table ws)) × (lengths ≡ matchLengths room (matchTree table ws)) × (r .rule ≡ matchTreeRule room table ws)
-    unfolding matchTree matchTreeRule WalkedTold
-    match-walked l r bodies lengths w = rw (good, walk-here l) w
+    pub match-walked : length table ≤ 16384 → (o : MatchTreeOutcome) → o ≡ walkedGives room (walkedHere table ws) → o ≡ matchTreeGives table ws room
+    unfolding matchTree matchTreeRule walkedGives matchTreeGives
+    match-walked l o w = rw (good, walk-here l) w
 
   module _ (bodies lengths : List ℕ) (b : bodies ≡ replicate room 0) (l : lengths ≡ replicate 16 0) (r : TreeMatch) (u : r .rule ≡ 0) where
     pub match-bad-term : (at : ℕ) → check termLimits ws ≡ Bad at → r .answer ≡ answer.BadTerm at
-        → (r .answer ≡ matchAnswer room (matchTree table ws)) × (bodies ≡ matchWords room (matchTree table ws)) × (lengths ≡ matchLengths room (matchTree table ws)) × (r .rule ≡ matchTreeRule room table ws)
-    unfolding matchTree matchTreeRule
-    match-bad-term at e a = let q = refused-leaves room (answer.BadTerm at) bodies lengths b l in rw e (a ∙ q .0, q .1, q .2, u)
+        → matchTreeCame (answered (r .answer)) (r .rule) bodies lengths ≡ matchTreeGives table ws room
+    unfolding matchTree matchTreeRule matchTreeGives
+    match-bad-term at e a = let q = refused-leaves room (answer.BadTerm at) bodies lengths b l in rw e (rule-came (r .answer) (r .rule) bodies lengths room (refused (answer.BadTerm at)) 0 (a ∙ q .0) u (q .1) (q .2))
 
     pub match-long : check termLimits ws ≡ Good → 16384 < length table → r .answer ≡ answer.Damaged 16384
-        → (r .answer ≡ matchAnswer room (matchTree table ws)) × (bodies ≡ matchWords room (matchTree table ws)) × (lengths ≡ matchLengths room (matchTree table ws)) × (r .rule ≡ matchTreeRule room table ws)
-    unfolding matchTree matchTreeRule walk
-    match-long e k a = let q = refused-leaves room (answer.Damaged 16384) bodies lengths b l in rw (e, lt-leb (length table) 16384 k) (a ∙ q .0, q .1, q .2, u)
-
--- ---- the promise of matching by the tree settles the answer, the rule and every lent word
-abbrev pub Promised : ℕ → List ℕ → List ℕ → TreeMatch → List ℕ → List ℕ → Type 0
-Promised room table ws r bodies lengths =
-    (r .answer ≡ matchAnswer room (matchTree table ws)) × (bodies ≡ matchWords room (matchTree table ws)) × (lengths ≡ matchLengths room (matchTree table ws)) × (r .rule ≡ matchTreeRule room table ws)
-
-pub match-settled : (room : ℕ) (table ws : List ℕ) (r q : TreeMatch) (b c l m : List ℕ) → Promised room table ws r b l → Promised room table ws q c m → (r ≡ q) × (b ≡ c) × (l ≡ m)
-match-settled room table ws r q b c l m x y = (
-  ap₂ (λ (a : Answer) (n : ℕ). record { answer = a; rule = n }) (x .0 ∙ sym (y .0)) (x .3 ∙ sym (y .3)),
-  x .1 ∙ sym (y .1),
-  x .2 ∙ sym (y .2),
-)
+        → matchTreeCame (answered (r .answer)) (r .rule) bodies lengths ≡ matchTreeGives table ws room
+    unfolding matchTree matchTreeRule matchTreeGives walk
+    match-long e k a = let q = refused-leaves room (answer.Damaged 16384) bodies lengths b l in rw (e, lt-leb (length table) 16384 k) (rule-came (r .answer) (r .rule) bodies lengths room (refused (answer.Damaged 16384)) 0 (a ∙ q .0) u (q .1) (q .2))

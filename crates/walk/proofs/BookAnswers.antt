@@ -8,7 +8,7 @@ use Rattle.fit.specs.Match.{bodyList, lengthList}
 use Rattle.fit.specs.Lowest.{Fitting}
 use Rattle.walk.specs.Walk.{Walked, NoneFits, RuleFits, DamagedAt}
 use Rattle.walk.specs.declared.with_book.BookMatch.the-variants as found
-use Rattle.walk.specs.WithBook.{BookWalked}
+use Rattle.walk.specs.told.WithBook.{BookWalked}
 
 pub walked-none : (w : Walked) (bodies lengths : List ℕ) → BookWalked w found.None bodies lengths → (w ≡ NoneFits) × (bodies ≡ replicate 65536 0) × (lengths ≡ replicate 16 0)
 unfolding BookWalked

@@ -16,13 +16,13 @@ use Rattle.fit.specs.Match.{bodyList}
 use Rattle.fit.proofs.Laws.{bodies-none, bodies-more, fitted-room}
 use Rattle.tree.specs.Find.{rootPart, leafBody}
 use Rattle.walk.specs.Walk.{Walked, NoneFits, RuleFits, DamagedAt, variablesIn, isWord, walkFrom, walk, bookFits}
-use Rattle.walk.specs.Taken.{CaseTold}
+use Rattle.walk.specs.told.Taken.{CaseTold}
 use Rattle.walk.specs.declared.taken.Taken.the-variants.{Not}
 use Rattle.walk.specs.declared.state.Walk.{Walk}
 use Rattle.walk.specs.declared.with_book.BookMatch.{BookMatch}
 use Rattle.walk.specs.declared.with_book.BookMatch.the-variants as found
-use Rattle.walk.specs.State.{partFrom, placesOf, Parted, leafVariables, leafRule, WalkTold, LeafWritten}
-use Rattle.walk.specs.WithBook.{bookWalk, leafFits, SkipTold, BookWalked}
+use Rattle.walk.specs.told.State.{partFrom, placesOf, Parted, leafVariables, leafRule, WalkTold, LeafWritten}
+use Rattle.walk.specs.told.WithBook.{bookWalk, leafFits, SkipTold, BookWalked}
 use Rattle.walk.proofs.Uncovered.{one-tree, from-stands}
 use Rattle.walk.proofs.Answers.{ended-none, ended-damaged, ended-leaf, ended-sound}
 use Rattle.walk.proofs.Sound.{FoundSound, walk-sound}
@@ -55,7 +55,7 @@ module _ (ws : List ℕ) (parted : Parted ws) (some-words : 0 < length ws) where
   parted-body =
       let b = parted .begins 0 some-words in
       let s = b .2 in
-      rw (from-stands ws 0 (b .0) (b .1) s)
+      rw (from-stands ws 0 (b .0) (b .1) (parted .short) s)
       (record { one = s .wide; formed = s .formed; few = s .few; low = s .low; short = omega (arith, parted .short, ap length (s .same), length-append (words (b .0)) (b .1)) })
 
   pub part-word : (v : ℕ) → isWord v (partFrom ws 0) ≡ eqb v (getD ws 0 0)
@@ -66,7 +66,7 @@ module _ (ws : List ℕ) (parted : Parted ws) (some-words : 0 < length ws) where
       let e : ws ≡ words (b .0) ++ b .1 = b .2 .same in
       let f : words (b .0) ≡ word (o .0) ∷ (words (o .1) ++ words nothing) = ap words (o .2) ∙ words-node (o .0) (o .1) nothing in
       let g : getD ws 0 0 ≡ word (o .0) = ap (λ (l : List ℕ). getD l 0 0) (e ∙ ap (λ (l : List ℕ). l ++ b .1) f) in
-      rw (from-stands ws 0 (b .0) (b .1) (b .2), o .2, g)
+      rw (from-stands ws 0 (b .0) (b .1) (parted .short) (b .2), o .2, g)
 
 -- ---- so many bodies have room
 bodies-room : (b : ℕ → Row) (x n : ℕ) → ((y : ℕ) → x ≤ y → y < x + n → length (words (b y)) ≤ 4096) → length (bodyList b x n) ≤ 4096 * n
@@ -123,11 +123,11 @@ module _ (book table ws : List ℕ) (short : length table ≤ 16384) where
             let q : FoundSound (bookFits book) (leafRule table (placesOf ws s) (s .at)) = rw found-here at (walk-sound (bookFits book) table (partFrom ws 0) (parted-body ws parted some-words)) in
             q .3
 
-        pub with-rule : (fits : Bool) → LeafWritten table ws s 65536 bodies lengths fits → r ≡ found.Rule (getD table (s .at + 1) 0) → BookWalked (bookWalk book table ws) r bodies lengths
+        pub with-rule : (room : ℕ) → room ≡ 65536 → (fits : Bool) → LeafWritten table ws s room bodies lengths fits → r ≡ found.Rule (getD table (s .at + 1) 0) → BookWalked (bookWalk book table ws) r bodies lengths
         unfolding BookWalked LeafWritten
-        with-rule fits w e =
+        with-rule room u fits w e =
             let q = fitted-room 65536 vars body (sixteen-room body vars (ended-sound table ws s t z .few) body-terms) in
-            rw found-here (e, w .2 ∙ q .1, w .3 ∙ q .2)
+            rw found-here (e, w .2 ∙ rw u (q .1), w .3 ∙ rw u (q .2))
 
 -- ---- before the walk
 module _ (book table ws : List ℕ) (r : BookMatch) (bodies lengths : List ℕ) (b : bodies ≡ replicate 65536 0) (l : lengths ≡ replicate 16 0) where

@@ -14,14 +14,14 @@ use Rattle.book.specs.declared.book.Sides.{Sides}
 use Rattle.book.specs.declared.book.Found.the-variants as found
 use Rattle.book.specs.Rule.{counted}
 use Rattle.book.specs.Book.{Rule}
-use Rattle.book.specs.Found.{sidesAt}
+use Rattle.book.specs.told.Found.{sidesAt}
 use Rattle.book.proofs.Laws.{sides-rule, sides-none}
 use Rattle.tree.specs.Tree.{LeafVariable, countsOf}
 use Rattle.tree.specs.Find.{PartAt}
 use Rattle.tree.proofs.Laws.{length-counts, counts-none, counts-first}
 use Rattle.walk.specs.Walk.{variableThen, variablesIn, countsFit, bookFits}
-use Rattle.walk.specs.State.{soundLeaf, variablesOr}
-use Rattle.walk.specs.WithBook.{countsIn, variablesFit, leafFits}
+use Rattle.walk.specs.told.State.{soundLeaf, variablesOr}
+use Rattle.walk.specs.told.WithBook.{countsIn, variablesFit, leafFits}
 use Rattle.walk.proofs.Sound.{AsMany, as-many}
 use Rattle.walk.proofs.Variables.{variables-cut, variables-past, variables-are}
 

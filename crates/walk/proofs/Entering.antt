@@ -10,17 +10,17 @@ use lib.Seq.{drop-cons, getD-set-same, getD-set-other, drop-drop, drop-append-se
 use lib.Dec.{ltb}
 use borrow.Author.Tests.{ltb-true, ltb-false}
 use Rattle.term.specs.Word.{Head, word, count, countOf}
-use Rattle.term.specs.Row.{Row, nothing, node, width, words, nesting, kinds, Formed}
+use Rattle.term.specs.Row.{Row, nothing, node, width, words, nesting, ranks, Formed}
 use Rattle.term.specs.Renumber.{inside}
-use Rattle.term.specs.Walk.{Stands, insideWord}
+use Rattle.term.specs.told.Walk.{Stands, insideWord}
 use Rattle.term.specs.Part.{partEnd}
-use Rattle.term.proofs.Laws.{words-nothing, words-node, width-nothing, width-node, nesting-nothing, nesting-node, kinds-nothing, kinds-node, formed-nothing, formed-node, node-formed, count-word, inside-is, inside-le, part-ends}
+use Rattle.term.proofs.Laws.{words-nothing, words-node, width-nothing, width-node, nesting-nothing, nesting-node, ranks-nothing, ranks-node, formed-nothing, formed-node, node-formed, count-word, inside-is, inside-le, part-ends}
 use Rattle.fit.specs.Constraint.{childrenOf}
 use Rattle.fit.proofs.Laws.{children-node}
-use Rattle.tree.specs.Find.{PartAt, partOf, markedPart, childParts, insideOf, enterPart}
-use Rattle.tree.proofs.Laws.{child-parts-none, child-parts-more, inside-of, enter-is, total, length-total, total-entered}
+use Rattle.tree.specs.Find.{PartAt, partOf, markedPart, childParts, insideOf, enterPart, total}
+use Rattle.tree.proofs.Laws.{child-parts-none, child-parts-more, inside-of, enter-is, length-total, total-entered}
 use Rattle.walk.specs.declared.state.Walk.{Walk}
-use Rattle.walk.specs.State.{partFrom, placeIn, placesFrom, placesOf, Parted, Holds, EnterTold}
+use Rattle.walk.specs.told.State.{partFrom, placeIn, placesFrom, placesOf, Parted, Holds, EnterTold}
 use Rattle.walk.proofs.Uncovered.{length-places, places-agree, places-more, enteredPart, places-marked, length-children, one-tree, from-stands, place-depth, place-entered, place-part, place-stands, place-tree}
 
 -- what is left to append: the trees of a row that stands at an offset
@@ -33,7 +33,7 @@ pub record Entering (term : List ℕ) (target : List PartAt) (inner : ℕ) (offs
   pub row : Row
   pub after : List ℕ
   pub formed : Formed row
-  pub few : kinds row ≤ 2
+  pub few : ranks row ≤ 2
   pub deep : inner + nesting row ≤ 64
   pub wide : width row ≡ more
   pub same : drop from term ≡ words row ++ after
@@ -41,13 +41,13 @@ pub record Entering (term : List ℕ) (target : List PartAt) (inner : ℕ) (offs
   pub room : total target ≤ length term
 
 -- a tree of a row stands alone
-stands-first : (term : List ℕ) (from : ℕ) (h : Head) (kids rest : Row) (after : List ℕ) → Formed (node h kids rest) → kinds (node h kids rest) ≤ 2 → nesting (node h kids rest) ≤ 64
+stands-first : (term : List ℕ) (from : ℕ) (h : Head) (kids rest : Row) (after : List ℕ) → Formed (node h kids rest) → ranks (node h kids rest) ≤ 2 → nesting (node h kids rest) ≤ 64
     → drop from term ≡ words (node h kids rest) ++ after → Stands 64 1 (drop from term) 0 (node h kids nothing) (words rest ++ after)
 stands-first term from h kids rest after f k n e =
     let q = formed-node h kids rest f in
     record {
       formed = node-formed h kids nothing (record { table = q .table; full = q .full; below = q .below; beside = formed-nothing });
-      few = rw (kinds-node h kids nothing, kinds-nothing) (omega (arith, rw (kinds-node h kids rest) at k));
+      few = rw (ranks-node h kids nothing, ranks-nothing) (omega (arith, rw (ranks-node h kids rest) at k));
       low = rw (nesting-node h kids nothing, nesting-nothing) (omega (arith, rw (nesting-node h kids rest) at n));
       wide = rw (width-node h kids nothing, width-nothing);
       same =
@@ -100,15 +100,15 @@ Lower term offsets depths n = getD depths n 0 + nesting (partFrom term (getD off
 
 -- the first tree of the row is appended
 entering-next : (term : List ℕ) (target : List PartAt) (inner : ℕ) (offsets depths : List ℕ) (entered : List Bool) (count from more : ℕ) (h : Head) (kids rest : Row) (after : List ℕ)
-    → Entering term target inner offsets depths entered count from more → count < 4096 → from < length term → (more ≡ 0 → ⊥)
-    → Formed (node h kids rest) → kinds (node h kids rest) ≤ 2 → inner + nesting (node h kids rest) ≤ 64 → width (node h kids rest) ≡ more
+    → Entering term target inner offsets depths entered count from more → count < 4096 → length term ≤ 4096 → from < length term → (more ≡ 0 → ⊥)
+    → Formed (node h kids rest) → ranks (node h kids rest) ≤ 2 → inner + nesting (node h kids rest) ≤ 64 → width (node h kids rest) ≡ more
     → drop from term ≡ words (node h kids rest) ++ after → placesFrom (placeIn term offsets depths entered) 0 count ++ childParts inner (node h kids rest) ≡ target
     → Stands 64 1 (drop from term) 0 (node h kids nothing) (words rest ++ after) → partEnd (drop from term) ≡ length (words (node h kids nothing))
     → Entering term target inner (set offsets count from) (set depths count inner) (set entered count false) (count + 1) (from + partEnd (drop from term)) (more - 1)
-entering-next term target inner offsets depths entered count from more h kids rest after e c within left f k n w s t st ends =
+entering-next term target inner offsets depths entered count from more h kids rest after e c small within left f k n w s t st ends =
     let q = formed-node h kids rest f in
-    let is : partFrom term from ≡ node h kids nothing = from-stands term from (node h kids nothing) (words rest ++ after) st in
-    let kn : kinds rest ≤ 2 = omega (arith, rw (kinds-node h kids rest) at k) in
+    let is : partFrom term from ≡ node h kids nothing = from-stands term from (node h kids nothing) (words rest ++ after) small st in
+    let kn : ranks rest ≤ 2 = omega (arith, rw (ranks-node h kids rest) at k) in
     let dn : inner + nesting rest ≤ 64 = omega (arith, rw (nesting-node h kids rest) at n) in
     let wn : suc (width rest) ≡ more = rw (width-node h kids rest) at w in
     record {
@@ -196,7 +196,7 @@ module _ (term : List ℕ) (target : List PartAt) (inner : ℕ) (offsets depths 
     pub entering-past : from + partEnd (drop from term) ≤ length term
     entering-past = go (e .row) (e .formed) (e .few) (e .deep) (e .wide) (e .same)
       where
-        go : (g : Row) → Formed g → kinds g ≤ 2 → inner + nesting g ≤ 64 → width g ≡ more → drop from term ≡ words g ++ e .after → from + partEnd (drop from term) ≤ length term
+        go : (g : Row) → Formed g → ranks g ≤ 2 → inner + nesting g ≤ 64 → width g ≡ more → drop from term ≡ words g ++ e .after → from + partEnd (drop from term) ≤ length term
         go nothing f k n w s = absurd (left (sym w ∙ width-nothing))
         go (node h kids rest) f k n w s =
             let st = stands-first term from h kids rest (e .after) f k (omega (arith, n)) s in
@@ -206,7 +206,7 @@ module _ (term : List ℕ) (target : List PartAt) (inner : ℕ) (offsets depths 
     entered-one : Entering term target inner (set offsets count from) (set depths count inner) (set entered count false) (count + 1) (from + partEnd (drop from term)) (more - 1)
     entered-one = go (e .row) (e .formed) (e .few) (e .deep) (e .wide) (e .same) (e .told)
       where
-        go : (g : Row) → Formed g → kinds g ≤ 2 → inner + nesting g ≤ 64 → width g ≡ more → drop from term ≡ words g ++ e .after
+        go : (g : Row) → Formed g → ranks g ≤ 2 → inner + nesting g ≤ 64 → width g ≡ more → drop from term ≡ words g ++ e .after
             → placesFrom (placeIn term offsets depths entered) 0 count ++ childParts inner g ≡ target
             → Entering term target inner offsets′ depths′ entered′ (count + 1) (from + partEnd (drop from term)) (more - 1)
         go nothing f k n w s t = absurd (left (sym w ∙ width-nothing))
@@ -215,7 +215,7 @@ module _ (term : List ℕ) (target : List PartAt) (inner : ℕ) (offsets depths 
             let st = stands-first term from h kids rest (e .after) f k low s in
             let ends : partEnd (drop from term) ≡ length (words (node h kids nothing)) = part-ends 64 (drop from term) (node h kids nothing) (words rest ++ e .after) st in
             let c : count < 4096 = omega (arith, entering-count, left) in
-            entering-next term target inner offsets depths entered count from more h kids rest (e .after) e c entering-from left f k n w s t st ends
+            entering-next term target inner offsets depths entered count from more h kids rest (e .after) e c (p .short) entering-from left f k n w s t st ends
 
     pub entering-more : (end : ℕ) → end ≡ partEnd (drop from term) → Entering term target inner (set offsets count from) (set depths count inner) (set entered count false) (count + 1) (from + end) (more - 1)
     entering-more end is-end = rw is-end (entered-one)
@@ -241,7 +241,7 @@ module _ (term : List ℕ) (s : Walk) (p : Parted term) (h : Holds term s) (n : 
     pub after : List ℕ
     pub is : partOf n held .part ≡ node head kids nothing
     pub formed : Formed (node head kids nothing)
-    pub few : kinds (node head kids nothing) ≤ 2
+    pub few : ranks (node head kids nothing) ≤ 2
     pub first : getD term at-offset 0 ≡ word head
     pub same : drop (at-offset + 1) term ≡ words kids ++ after
 
@@ -306,8 +306,9 @@ module _ (term : List ℕ) (s : Walk) (p : Parted term) (h : Holds term s) (n : 
     held-room : total (enterPart n held) ≤ length term
     held-room = omega (arith, total-entered held n (place-entered term s p h n i ∙ o), h .room)
 
-    pub entering-start : (v : ℕ) → v ≡ inner → Entering term (enterPart n held) v (s .offsets) (s .depths) (set (s .entered) n true) (s .count) (at-offset + 1) (countOf (getD term at-offset 0))
-    entering-start v is-inner = rw is-inner (shown opened)
+    pub entering-start : (v : ℕ) → v ≡ inner → (k : ℕ) → k ≡ countOf (getD term at-offset 0)
+        → Entering term (enterPart n held) v (s .offsets) (s .depths) (set (s .entered) n true) (s .count) (at-offset + 1) k
+    entering-start v is-inner k counted = rw (is-inner, counted) (shown opened)
       where
         shown : Opened → Entering term (enterPart n held) inner (s .offsets) (s .depths) (set (s .entered) n true) (s .count) (at-offset + 1) (countOf (getD term at-offset 0))
         shown q =
@@ -324,7 +325,7 @@ module _ (term : List ℕ) (s : Walk) (p : Parted term) (h : Holds term s) (n : 
               row = q .kids;
               after = q .after;
               formed = f .below;
-              few = omega (arith, rw (kinds-node (q .head) (q .kids) nothing) at (q .few));
+              few = omega (arith, rw (ranks-node (q .head) (q .kids) nothing) at (q .few));
               deep = omega (arith, il, rw (nesting-node (q .head) (q .kids) nothing) at l);
               wide = f .full ∙ rw (q .first) (sym (count-word (q .head) (f .table)));
               same = q .same;

@@ -18,8 +18,8 @@ use Rattle.walk.specs.Walk.{DamagedAt, Next, Ends, Goes, unless, goTo, i
 use Rattle.walk.specs.declared.state.Walk.{Walk}
 use Rattle.walk.specs.declared.taken.Taken.{Taken}
 use Rattle.walk.specs.declared.taken.Taken.the-variants.{To, Not}
-use Rattle.walk.specs.Taken.{addressOf, CaseTold, closedTaken, sameTaken}
-use Rattle.walk.specs.State.{stoppedAs, placesOf, Parted, Holds, Said, Told, GoTold, EnterTold, CaseTaken, SwitchTold, ClosedTold, SameTold}
+use Rattle.walk.specs.told.Taken.{addressOf, CaseTold, closedTaken, sameTaken}
+use Rattle.walk.specs.told.State.{stoppedAs, placesOf, Parted, Holds, Said, Told, GoTold, EnterTold, CaseTaken, SwitchTold, ClosedTold, SameTold}
 use Rattle.walk.proofs.Tells.{told-same, told-damaged}
 use Rattle.walk.proofs.Uncovered.{held-length, place-depth, place-entered, place-body, has-body, same-body-is}
 use Rattle.walk.proofs.Entering.{opened}
@@ -151,20 +151,19 @@ module _ (table term : List ℕ) (s : Walk) (p : Parted term) (h : Holds term s)
       here : place < length held
       here = omega (arith, held-length term s p h)
 
-      closed-next : (t : Taken) → t ≡ closedTaken (getD (s .depths) place 0) (drop (getD (s .offsets) place 0) term) (getD table (s .at + 2) 0) (drop (s .at + 3) table)
-          → closedNode table (s .at) held (drop (s .at + 1) table) ≡ takenNext table (s .at) held t
-      closed-next t e =
-          rw (two-words table (s .at) long, e)
-          (closed-is table (s .at) held place (getD table (s .at + 2) 0) (drop (s .at + 3) table) (getD (s .depths) place 0) (drop (getD (s .offsets) place 0) term) here (place-depth term s p h place i)
-          (λ ys g. ap isSome (place-body term s p h place i ys g) ∙ has-body (getD (s .depths) place 0) ys (drop (getD (s .offsets) place 0) term)))
+      -- the words of the part are lent, and the address is what was taken for them
+      module _ (part : List ℕ) (l : part ≡ drop (getD (s .offsets) place 0) term) (t : Taken) (e : t ≡ closedTaken (getD (s .depths) place 0) part (getD table (s .at + 2) 0) (drop (s .at + 3) table)) where
+        closed-next : closedNode table (s .at) held (drop (s .at + 1) table) ≡ takenNext table (s .at) held t
+        closed-next =
+            rw (two-words table (s .at) long, e, l)
+            (closed-is table (s .at) held place (getD table (s .at + 2) 0) (drop (s .at + 3) table) (getD (s .depths) place 0) (drop (getD (s .offsets) place 0) term) here (place-depth term s p h place i)
+            (λ ys g. ap isSome (place-body term s p h place i ys g) ∙ has-body (getD (s .depths) place 0) ys (drop (getD (s .offsets) place 0) term)))
 
-      pub closed-goes : (to : ℕ) → To to ≡ closedTaken (getD (s .depths) place 0) (drop (getD (s .offsets) place 0) term) (getD table (s .at + 2) 0) (drop (s .at + 3) table)
-          → (r : Walk) → GoTold table s to r → ClosedTold table term s r
-      closed-goes to e r g = told-same table term _ (λ fits. goTo table (s .at) to held) r (λ fits. closed-next (To to) e) (g term h)
+        pub closed-goes : (to : ℕ) → t ≡ To to → (r : Walk) → GoTold table s to r → ClosedTold table term s r
+        closed-goes to q r g = told-same table term _ (λ fits. goTo table (s .at) to held) r (λ fits. closed-next ∙ ap (takenNext table (s .at) held) q) (g term h)
 
-      pub closed-damaged : Not ≡ closedTaken (getD (s .depths) place 0) (drop (getD (s .offsets) place 0) term) (getD table (s .at + 2) 0) (drop (s .at + 3) table)
-          → (r : Walk) → r ≡ stoppedAs s 3 → ClosedTold table term s r
-      closed-damaged e r q = damaged _ r q (closed-next Not e)
+        pub closed-damaged : t ≡ Not → (r : Walk) → r ≡ stoppedAs s 3 → ClosedTold table term s r
+        closed-damaged q r z = damaged _ r z (closed-next ∙ ap (takenNext table (s .at) held) q)
 
       -- Switch
       pub switch-past : length table - (s .at + 3) ≤ 2 * getD table (s .at + 2) 0 → (r : Walk) → r ≡ stoppedAs s 3 → SwitchTold table term s r
@@ -183,17 +182,13 @@ module _ (table term : List ℕ) (s : Walk) (p : Parted term) (h : Holds term s)
             (switch-is table (s .at) held place (getD table (s .at + 2) 0) (drop (s .at + 3) table) (addressOf t) here (rw (length-drop (s .at + 3) table) fits)
             (c (partOf place held .part) (λ v. rw (q .is, q .first))))
 
-      pub switch-goes : 2 * getD table (s .at + 2) 0 < length table - (s .at + 3)
-          → CaseTold (getD term (getD (s .offsets) place 0) 0) (getD table (s .at + 2) 0) (drop (s .at + 3) table) Not
-          → (r : Walk) → GoTold table s (getD table (s .at + 3 + 2 * getD table (s .at + 2) 0) 0) r → SwitchTold table term s r
-      switch-goes f c r g =
-          told-same table term _ (λ fits. goTo table (s .at) (getD table (s .at + 3 + 2 * getD table (s .at + 2) 0) 0) held) r
-          (λ fits. switch-next f Not c ∙ rw (getD-drop (s .at + 3) table (2 * getD table (s .at + 2) 0) 0)) (g term h)
+        pub switch-goes : t ≡ Not → (r : Walk) → GoTold table s (getD table (s .at + 3 + 2 * getD table (s .at + 2) 0) 0) r → SwitchTold table term s r
+        switch-goes q r g =
+            told-same table term _ (λ fits. goTo table (s .at) (getD table (s .at + 3 + 2 * getD table (s .at + 2) 0) 0) held) r
+            (λ fits. switch-next ∙ rw (q, getD-drop (s .at + 3) table (2 * getD table (s .at + 2) 0) 0)) (g term h)
 
-      pub switch-takes : 2 * getD table (s .at + 2) 0 < length table - (s .at + 3) → (to : ℕ)
-          → CaseTold (getD term (getD (s .offsets) place 0) 0) (getD table (s .at + 2) 0) (drop (s .at + 3) table) (To to)
-          → (r : Walk) → CaseTaken table term s place to r → SwitchTold table term s r
-      switch-takes f to c r g = told-same table term _ (λ fits. caseNext table (s .at) place held 0 (some to)) r (λ fits. switch-next f (To to) c) g
+        pub switch-takes : (to : ℕ) → t ≡ To to → (r : Walk) → CaseTaken table term s place to r → SwitchTold table term s r
+        switch-takes to q r g = told-same table term _ (λ fits. caseNext table (s .at) place held 0 (some to)) r (λ fits. switch-next ∙ rw q) g
 
   -- Same
   module _ (long : s .at + 4 ≤ length table) where
@@ -211,25 +206,23 @@ module _ (table term : List ℕ) (s : Walk) (p : Parted term) (h : Holds term s)
           (rw (three-words table (s .at) long)
           (same-next-nowhere table (s .at) held place other (getD table (s .at + 3) 0) (drop (s .at + 4) table) (omega (arith, held-length term s p h)) (omega (arith, held-length term s p h))))
 
-      module _ (j : other < s .count) where
-        abbrev says : Taken
-        says =
-            sameTaken (getD (s .depths) place 0) (drop (getD (s .offsets) place 0) term) (getD (s .depths) other 0) (drop (getD (s .offsets) other 0) term) (getD table (s .at + 3) 0) (drop (s .at + 4) table)
-
-        same-next : (t : Taken) → t ≡ says → sameNode table (s .at) held (drop (s .at + 1) table) ≡ takenNext table (s .at) held t
-        same-next t e =
-            rw (three-words table (s .at) long, e)
+      -- the words of the parts are lent, and the address is what was taken for them
+      module _ (j : other < s .count) (part part-2 : List ℕ) (l : part ≡ drop (getD (s .offsets) place 0) term) (m : part-2 ≡ drop (getD (s .offsets) other 0) term) (t : Taken)
+          (e : t ≡ sameTaken (getD (s .depths) place 0) part (getD (s .depths) other 0) part-2 (getD table (s .at + 3) 0) (drop (s .at + 4) table)) where
+        same-next : sameNode table (s .at) held (drop (s .at + 1) table) ≡ takenNext table (s .at) held t
+        same-next =
+            rw (three-words table (s .at) long, e, l, m)
             (same-is table (s .at) held place other (getD table (s .at + 3) 0) (drop (s .at + 4) table) (getD (s .depths) place 0) (drop (getD (s .offsets) place 0) term) (getD (s .depths) other 0)
             (drop (getD (s .offsets) other 0) term) (omega (arith, held-length term s p h)) (omega (arith, held-length term s p h)) (place-depth term s p h place i) (place-depth term s p h other j)
             (λ ys zs g k.
             rw (place-body term s p h place i ys g, place-body term s p h other j zs k)
             (same-body-is (getD (s .depths) place 0) ys (drop (getD (s .offsets) place 0) term) (getD (s .depths) other 0) zs (drop (getD (s .offsets) other 0) term))))
 
-        pub same-goes : (to : ℕ) → To to ≡ says → (r : Walk) → GoTold table s to r → SameTold table term s r
-        same-goes to e r g = told-same table term _ (λ fits. goTo table (s .at) to held) r (λ fits. same-next (To to) e) (g term h)
+        pub same-goes : (to : ℕ) → t ≡ To to → (r : Walk) → GoTold table s to r → SameTold table term s r
+        same-goes to q r g = told-same table term _ (λ fits. goTo table (s .at) to held) r (λ fits. same-next ∙ ap (takenNext table (s .at) held) q) (g term h)
 
-        pub same-damaged : Not ≡ says → (r : Walk) → r ≡ stoppedAs s 3 → SameTold table term s r
-        same-damaged e r q = damaged _ r q (same-next Not e)
+        pub same-damaged : t ≡ Not → (r : Walk) → r ≡ stoppedAs s 3 → SameTold table term s r
+        same-damaged q r z = damaged _ r z (same-next ∙ ap (takenNext table (s .at) held) q)
 
   -- a case
   module _ (n : ℕ) (i : n < s .count) (to : ℕ) where

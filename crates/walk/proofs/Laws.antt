@@ -6,12 +6,10 @@ pub use Rattle.walk.proofs.Steps.{Later, later-next, walk-is}
 pub use Rattle.walk.proofs.Places.{Keeps, keeps-next}
 -- Over a layout the walk is the walk of the tree and never damaged; over the layout of an accepted book's tree it finds the lowest rule that fits.
 pub use Rattle.walk.proofs.Laid.{walkedOf, walk-laid, begun-alone, begun-with}
--- What compiling leaves begins with the book's tree, and is within a tree's words where its room is.
-pub use Rattle.walk.proofs.Demand3.{compiled-lies, compiled-short}
--- Demand 3, of what compiling and matching answer and leave, said without trees: the lowest rule that fits, with the only bodies.
-pub use Rattle.walk.proofs.Demand3.{tree-finds}
--- The promise of matching by the tree settles its answer, its rule and every lent word.
-pub use Rattle.walk.proofs.Answers.{Promised, match-settled}
+-- Demand 3, of what compiling leaves and matching hands back, said without trees: the lowest rule that fits, with the only bodies.
+pub use Rattle.walk.proofs.Demand3.{tree-finds, only-fit}
+-- What matching by the tree hands back, as one outcome and part by part.
+pub use Rattle.walk.proofs.Outcomes.{tree-came, tree-answer, tree-rule, tree-bodies, tree-lengths}
 -- Each offset of a term begins a part, also in the words from an offset on: what the walk asks of its words.
 pub use Rattle.walk.proofs.Answers.{tail-parted}
 -- On every walk a rule that is found has bodies; with a book it is one of the book's rules, with as many variables.

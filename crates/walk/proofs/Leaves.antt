@@ -8,7 +8,8 @@ use native.Mathlib.Omega.{arith}
 use lib.Dec.{ltb}
 use lib.ListN.{length, getD, take, drop, set, replicate, length-drop, length-append}
 use borrow.Author.Tests.{ltb-true, ltb-false, lt-ltb, le-ltb, le-leb, lt-leb}
-use Rattle.term.specs.declared.renumber.Step.the-variants as step
+use Rattle.term.specs.declared.renumber.Passed.{Passed}
+use Rattle.term.specs.declared.renumber.Passed.the-variants as step
 use Rattle.term.specs.declared.part.Written.{Written}
 use Rattle.term.specs.declared.part.Written.the-variants.{Words}
 use Rattle.term.specs.Row.{Row, words}
@@ -20,7 +21,7 @@ use Rattle.tree.specs.Find.{PartAt, bodyOr, leafBody}
 use Rattle.tree.proofs.Laws.{leaf-first, leaf-later}
 use Rattle.walk.specs.Walk.{DamagedAt, Next, Ends, unless, RuleFits, variablesIn, soundVariables, leafWith, leafNode}
 use Rattle.walk.specs.declared.state.Walk.{Walk}
-use Rattle.walk.specs.State.{stoppedAs, placesOf, Parted, Holds, soundLeaf, variablesOr, leafVariables, LeafSound, LeafTold, PartWritten, LeafWritten}
+use Rattle.walk.specs.told.State.{stoppedAs, placesOf, Parted, Holds, soundLeaf, variablesOr, leafVariables, LeafSound, LeafTold, PartWritten, LeafWritten}
 use Rattle.walk.proofs.Tells.{told-damaged, told-rule}
 use Rattle.walk.proofs.Uncovered.{place-body}
 use Rattle.walk.proofs.Judged.{two-words}
@@ -130,6 +131,10 @@ module _ (d : ℕ) (ys ws out done : List ℕ) where
   pub part-short : (r : Written) → r ≡ bodyAnswer (length out) (bodyOf d ys ws) → ((n : ℕ) → r ≡ Words n → ⊥) → PartWritten d ys ws out done step.Stuck
   unfolding PartWritten
   part-short r e n b i = short-written (length out) (words b) r (e ∙ ap (bodyAnswer (length out)) i ∙ body-answer (length out) b) n
+
+-- the lists and the words, as they are lent
+pub part-at : (d : ℕ) (ys zs ws vs out done : List ℕ) (r q : Passed) → ys ≡ zs → ws ≡ vs → r ≡ q → PartWritten d ys ws out done r → PartWritten d zs vs out done q
+part-at d ys zs ws vs out done r q e f g w = rw (e, f, g) at w
 
 -- ---- all bodies
 some-body : (o : Option Row) → isSome o ≡ true → (b : Row) × (o ≡ some b)

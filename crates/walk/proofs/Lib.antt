@@ -7,6 +7,7 @@ mod Judged
 mod Variables
 mod Leaves
 mod Walking
+mod Outcomes
 mod Answers
 mod Nodes
 mod Steps

@@ -11,8 +11,8 @@ use Rattle.term.specs.Word.{pick}
 use Rattle.term.specs.Renumber.{goodList}
 use Rattle.term.specs.Part.{isSome, sameO}
 use Rattle.tree.specs.Tree.{LeafVariable, countsOf}
-use Rattle.tree.specs.Find.{PartAt, partOf, enterPart, bodyFor, leafBody}
-use Rattle.tree.proofs.Laws.{total, total-entered}
+use Rattle.tree.specs.Find.{PartAt, partOf, enterPart, bodyFor, leafBody, total}
+use Rattle.tree.proofs.Laws.{total-entered}
 use Rattle.walk.specs.Walk.{NoneFits, RuleFits, DamagedAt, Next, Ends, Goes, unless, goTo, variablesIn, soundVariables, leafWith, leafNode, caseOf, caseNext, switchNode, closedNode, sameNode, nodeAt, nextAt}
 
 -- where the walk goes on, it has as many places and words below them as before

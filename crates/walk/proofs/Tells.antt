@@ -9,7 +9,7 @@ use lib.ListN.{length}
 use borrow.Author.Tests.{lt-ltb, le-ltb}
 use Rattle.walk.specs.Walk.{NoneFits, DamagedAt, Next, Ends, Goes, unless, goTo}
 use Rattle.walk.specs.declared.state.Walk.{Walk}
-use Rattle.walk.specs.State.{stoppedAs, placesOf, Holds, LeafAt, Said, Told, GoTold}
+use Rattle.walk.specs.told.State.{stoppedAs, placesOf, Holds, LeafAt, Said, Told, GoTold}
 
 pub told-same : (table term : List ℕ) (next other : (ℕ → List ℕ → Bool) → Next) (r : Walk) → ((fits : ℕ → List ℕ → Bool) → next fits ≡ other fits)
     → Told table term other r → Told table term next r

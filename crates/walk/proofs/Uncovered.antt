@@ -5,19 +5,19 @@ use mathlib.Core.List.{List, [], _∷_, _++_}
 use mathlib.Core.Option.{Option, none, some}
 use Prim.Native.Nat.{ℕ, zero, suc, _+_, _≤_, _<_}
 use native.Mathlib.Omega.{arith}
-use lib.ListN.{length, getD, drop}
+use lib.ListN.{length, length-drop, getD, drop}
 use Rattle.term.specs.Word.{Head}
 use Rattle.term.specs.Row.{Row, nothing, node, width, words}
 use Rattle.term.specs.Renumber.{goodList, toBody}
-use Rattle.term.specs.Walk.{Stands}
+use Rattle.term.specs.told.Walk.{Stands}
 use Rattle.term.specs.Part.{part, bodyOf, isSome, hasBody, sameO, sameBody}
-use Rattle.term.proofs.Laws.{never, width-nothing, width-node, part-stands, body-stands, good-true, is-some, is-none, same-by-words, same-bodies}
+use Rattle.term.proofs.Laws.{never, width-nothing, width-node, part-stands, body-stands, stands-short, good-true, is-some, is-none, same-by-words, same-bodies}
 use Rattle.fit.specs.Constraint.{bodyHere}
 use Rattle.fit.proofs.Laws.{body-node}
 use Rattle.tree.specs.Find.{PartAt, partOf, markedPart, childParts, bodyFor}
 use Rattle.tree.proofs.Laws.{part-first, part-later, marked-first, marked-later, child-parts-none, child-parts-more, body-for-is}
 use Rattle.walk.specs.declared.state.Walk.{Walk}
-use Rattle.walk.specs.State.{partFrom, placeIn, placesFrom, placesOf, Parted, Holds}
+use Rattle.walk.specs.told.State.{partFrom, placeIn, placesFrom, placesOf, Parted, Holds}
 
 -- ---- places by index
 pub length-places : (f : ℕ → PartAt) (i n : ℕ) → length (placesFrom f i n) ≡ n
@@ -76,9 +76,9 @@ one-tree (node h kids nothing) e = (h, kids, refl)
 one-tree (node h kids (node g k r)) e =
     let z : suc (suc (width r)) ≡ 1 = rw (width-node h kids (node g k r), width-node g k r) at e in absurd (omega (arith, z))
 
-pub from-stands : (term : List ℕ) (at : ℕ) (f : Row) (after : List ℕ) → Stands 64 1 (drop at term) 0 f after → partFrom term at ≡ f
+pub from-stands : (term : List ℕ) (at : ℕ) (f : Row) (after : List ℕ) → length term ≤ 4096 → Stands 64 1 (drop at term) 0 f after → partFrom term at ≡ f
 unfolding partFrom
-from-stands term at f after s = rw (part-stands (drop at term) f after s)
+from-stands term at f after l s = rw (part-stands (drop at term) f after (stands-short 64 1 (drop at term) 0 f after s (omega (arith, length-drop at term, l))) s)
 
 -- ---- a place that is held
 module _ (term : List ℕ) (s : Walk) (p : Parted term) (h : Holds term s) where
@@ -114,7 +114,7 @@ module _ (term : List ℕ) (s : Walk) (p : Parted term) (h : Holds term s) where
     place-stands = p .begins offset (h .within n i)
 
     pub place-tree : partOf n (placesOf term s) .part ≡ place-stands .0
-    place-tree = place-part ∙ from-stands term offset (place-stands .0) (place-stands .1) (place-stands .2)
+    place-tree = place-part ∙ from-stands term offset (place-stands .0) (place-stands .1) (p .short) (place-stands .2)
 
     -- its body is that of the words at its offset
     pub place-body : (ys : List ℕ) → goodList depth ys ≡ true → bodyFor (placesOf term s) n ys ≡ bodyOf depth ys (drop offset term)
@@ -122,7 +122,7 @@ module _ (term : List ℕ) (s : Walk) (p : Parted term) (h : Holds term s) where
         let f = place-stands .0 in
         let o = one-tree f (place-stands .2 .wide) in
         let b : bodyHere depth ys f ≡ toBody depth ys f = rw (o .2) (body-node depth ys (o .0) (o .1) nothing) in
-        body-for-is (placesOf term s) n ys ∙ rw (place-depth, place-tree) (b ∙ sym (body-stands depth ys (drop offset term) f (place-stands .1) (good-true depth ys g) (place-stands .2)))
+        body-for-is (placesOf term s) n ys ∙ rw (place-depth, place-tree) (b ∙ sym (body-stands depth ys (drop offset term) f (place-stands .1) (good-true depth ys g) (stands-short 64 1 (drop offset term) 0 f (place-stands .1) (place-stands .2) (omega (arith, length-drop offset term, p .short))) (place-stands .2)))
 
 -- the tests of term, by the bodies
 pub has-body : (d : ℕ) (ys ws : List ℕ) → isSome (bodyOf d ys ws) ≡ hasBody d ys ws

@@ -16,7 +16,7 @@ use Rattle.tree.specs.Tree.{LeafVariable}
 use Rattle.tree.specs.Find.{PartAt, partOf, bodyFor}
 use Rattle.walk.specs.Walk.{variableThen, variablesIn, soundVariable, soundVariables}
 use Rattle.walk.specs.declared.state.Walk.{Walk}
-use Rattle.walk.specs.State.{placesOf, Parted, Holds, soundLeaf}
+use Rattle.walk.specs.told.State.{placesOf, Parted, Holds, soundLeaf}
 use Rattle.walk.proofs.Uncovered.{held-length, place-depth, place-body, has-body}
 
 sound-then : (ps : List PartAt) (v : LeafVariable) (o : Option (List LeafVariable)) → soundLeaf ps (variableThen v o) ≡ soundVariable ps v && soundLeaf ps o
@@ -145,14 +145,17 @@ module _ (table : List ℕ) (at n : ℕ) (some-left : n ≡ 0 → ⊥) where
           lent : take (at + 2 + count - (at + 2)) (drop (at + 2) table) ≡ list
           lent = let z : at + 2 + count - (at + 2) ≡ count = omega arith in rw z
 
-          pub leaf-open : false ≡ hasBody depth (take (at + 2 + count - (at + 2)) (drop (at + 2) table)) part → false ≡ soundLeaf (placesOf term s) (variablesIn n (drop at table))
-          leaf-open b = unsound (placesOf term s) (sound-is ∙ sym (rw lent at b))
+          -- the words of the part are lent, and what was asked of them is said
+          module _ (ws : List ℕ) (l : ws ≡ part) (b : Bool) (q : b ≡ hasBody depth (take (at + 2 + count - (at + 2)) (drop (at + 2) table)) ws) where
+            asked : b ≡ hasBody depth list part
+            asked = q ∙ rw (lent, l)
 
-          pub leaf-next : true ≡ hasBody depth (take (at + 2 + count - (at + 2)) (drop (at + 2) table)) part
-              → soundLeaf (placesOf term s) (variablesIn n (drop at table)) ≡ soundLeaf (placesOf term s) (variablesIn (n - 1) (drop (at + 2 + count) table))
-          leaf-next b =
-              let e : soundVariable (placesOf term s) var ≡ true = sound-is ∙ sym (rw lent at b) in
-              rw (variables-are) (sound-then (placesOf term s) var (variablesIn (n - 1) (drop (at + 2 + count) table)) ∙ rw e)
+            pub leaf-open : b ≡ false → false ≡ soundLeaf (placesOf term s) (variablesIn n (drop at table))
+            leaf-open e = unsound (placesOf term s) (sound-is ∙ sym asked ∙ e)
+
+            pub leaf-next : b ≡ true → soundLeaf (placesOf term s) (variablesIn n (drop at table)) ≡ soundLeaf (placesOf term s) (variablesIn (n - 1) (drop (at + 2 + count) table))
+            leaf-next e =
+                rw (variables-are) (sound-then (placesOf term s) var (variablesIn (n - 1) (drop (at + 2 + count) table)) ∙ rw (sound-is ∙ sym asked ∙ e))
 
 -- ---- what was read and is sound
 pub record FirstRead (table term : List ℕ) (s : Walk) (at n : ℕ) (vs : List LeafVariable) : Type 0 where

@@ -15,7 +15,7 @@ use Rattle.tree.specs.Find.{PartAt, rootPart}
 use Rattle.tree.proofs.Laws.{total-root}
 use Rattle.walk.specs.Walk.{Walked, DamagedAt, Ends, unless, leafNode, switchNode, closedNode, sameNode, nodeAt, nextAt, follow, walkFrom}
 use Rattle.walk.specs.declared.state.Walk.{Walk}
-use Rattle.walk.specs.State.{stoppedAs, entryAt, partFrom, placeIn, placesFrom, placesOf, Parted, Holds, leafVariables, leafRule, Said, Told, SwitchTold, ClosedTold, SameTold, LeafTold, StepTold, Stood, Standing, WalkTold}
+use Rattle.walk.specs.told.State.{stoppedAs, entryAt, partFrom, placeIn, placesFrom, placesOf, Parted, Holds, leafVariables, leafRule, Said, Told, SwitchTold, ClosedTold, SameTold, LeafTold, StepTold, Stood, Standing, WalkTold}
 use Rattle.walk.proofs.Steps.{later-next, walk-is}
 use Rattle.walk.proofs.Tells.{told-same, told-damaged, told-no-rule}
 use Rattle.walk.proofs.Uncovered.{from-stands}
@@ -121,7 +121,7 @@ module _ (term : List ℕ) (p : Parted term) (some-words : 0 < length term) wher
   pub entry-holds : Holds term entryAt
   entry-holds =
       let b = p .begins 0 some-words in
-      let f = from-stands term 0 (b .0) (b .1) (b .2) in
+      let f = from-stands term 0 (b .0) (b .1) (p .short) (b .2) in
       let l : length (words (b .0)) ≤ length term = omega (arith, ap length (b .2 .same), length-append (words (b .0)) (b .1)) in
       record {
         offsets-long = length-replicate {A = ℕ} 4096 0;

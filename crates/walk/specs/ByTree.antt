@@ -1,19 +1,16 @@
 -- What matching by the tree answers: document 01's numbers 11, 14, 1, 13, in this order. Its words and lengths are those of matching one rule.
 use Prim.Native.Nat.{ℕ}
 use mathlib.Core.List.{List}
-use mathlib.Core.Path.{_≡_}
 use lib.Dec.{leb}
 use lib.ListN.{length}
 use Rattle.term.specs.Word.{pick}
 use Rattle.term.specs.declared.check.Checked.{Checked}
 use Rattle.term.specs.declared.check.Checked.the-variants.{Good, Bad}
 use Rattle.term.specs.declared.answer.Answer.the-variants.{NoFit, BadTerm, Damaged}
+use Rattle.term.specs.Answer.{Answered, answered}
 use Rattle.term.specs.Check.{check, termLimits}
 use Rattle.fit.specs.Match.{treeOf, bodyList, Matched, refused, fitted, matchAnswer, matchWords, matchLengths}
-use Rattle.tree.specs.Find.{rootPart}
-use Rattle.walk.specs.Walk.{Walked, NoneFits, RuleFits, DamagedAt, walkFrom, walk, noBook}
-use Rattle.walk.specs.State.{partFrom}
-use Rattle.walk.specs.declared.by_tree.TreeMatch.{TreeMatch}
+use Rattle.walk.specs.Walk.{Walked, NoneFits, RuleFits, DamagedAt, walk, noBook}
 
 abbrev pub walkedMatch : Walked → Matched
 walkedMatch NoneFits = refused NoFit
@@ -40,11 +37,20 @@ termRule room (Bad at) w = 0
 unfoldable pub matchTreeRule : ℕ → List ℕ → List ℕ → ℕ
 matchTreeRule room table ws = termRule room (check termLimits ws) (walk noBook table (treeOf ws))
 
--- what is answered and left of a walk
-unfoldable pub WalkedTold : ℕ → Walked → TreeMatch → List ℕ → List ℕ → Type 0
-WalkedTold room w r bodies lengths =
-    (r .answer ≡ matchAnswer room (walkedMatch w)) × (bodies ≡ matchWords room (walkedMatch w)) × (lengths ≡ matchLengths room (walkedMatch w)) × (r .rule ≡ walkedRule room w)
+-- ---- all that comes back
+pub record MatchTreeOutcome : Type 0 where
+  pub said : Answered
+  pub rule : ℕ
+  pub bodies : List ℕ
+  pub lengths : List ℕ
 
--- the walk over the part that the words begin with, where no book is given
-abbrev pub walkedHere : List ℕ → List ℕ → Walked
-walkedHere table ws = walkFrom noBook table 0 (rootPart (partFrom ws 0))
+abbrev pub matchTreeCame : Answered → ℕ → List ℕ → List ℕ → MatchTreeOutcome
+matchTreeCame said rule bodies lengths = record { said = said; rule = rule; bodies = bodies; lengths = lengths }
+
+-- what a rule, or none, gives in a room for bodies
+abbrev pub ruleGives : ℕ → Matched → ℕ → MatchTreeOutcome
+ruleGives room m rule = matchTreeCame (answered (matchAnswer room m)) rule (matchWords room m) (matchLengths room m)
+
+-- what matching a term by the tree gives in a room for bodies
+unfoldable pub matchTreeGives : (tree term : List ℕ) (room : ℕ) → MatchTreeOutcome
+matchTreeGives tree term room = ruleGives room (matchTree tree term) (matchTreeRule room tree term)

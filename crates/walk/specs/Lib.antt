@@ -1,6 +1,4 @@
 pub mod Walk
 pub mod ByTree
-pub mod Taken
-pub mod State
-pub mod WithBook
 pub mod Demand
+pub mod told

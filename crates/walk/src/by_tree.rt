@@ -1,9 +1,9 @@
 // Matching by the tree.
 ghost use mathlib.Core.Path.{_≡_};
 ghost use lib.ListN.{length, replicate};
-ghost use Rattle.fit.specs.Match.{matchAnswer, matchWords, matchLengths};
-ghost use Rattle.walk.specs.State.{Parted, WalkTold};
-ghost use Rattle.walk.specs.ByTree.{matchTree, matchTreeRule, WalkedTold, walkedHere};
+ghost use Rattle.term.specs.Answer.{answered};
+ghost use Rattle.walk.specs.told.State.{Parted, WalkTold, walkedHere, walkedGives};
+ghost use Rattle.walk.specs.ByTree.{matchTreeCame, matchTreeGives};
 use crate::leaf::write_leaf;
 use crate::state::FIRST;
 use crate::state::NO_RULE;
@@ -14,9 +14,7 @@ use term::answer::Answer;
 use term::check::Checked;
 use term::check::check_term;
 use term::lent::clear;
-
-// A tree has at most so many words.
-pub const MOST_TREE: usize = 16384;
+use tree::node::MOST_TREE;
 
 // What is said for the rule where none was found.
 const NONE: u32 = 0;
@@ -36,7 +34,7 @@ fn match_walk(
     lengths: &mut [u32],
 ) -> TreeMatch
     requires { ⌜ Parted (now term) × WalkTold (now tree) (now term) walk × (now bodies ≡ replicate (length (now bodies)) 0) × (now lengths ≡ replicate 16 0) ⌝ }
-    ensures { λ r. ⌜ WalkedTold (length (now (bodies .entry))) (walkedHere (now (tree .entry)) (now (term .entry))) r (now (bodies .exit)) (now (lengths .exit)) ⌝ }
+    ensures { λ r. ⌜ matchTreeCame (answered (r .answer)) (r .rule) (now (bodies .exit)) (now (lengths .exit)) ≡ walkedGives (length (now (bodies .entry))) (walkedHere (now (tree .entry)) (now (term .entry))) ⌝ }
 {
     let at = walk.at;
     if walk.stands == NO_RULE {
@@ -70,10 +68,7 @@ pub fn match_tree(
     bodies: &mut [u32],
     lengths: &mut [u32; 16],
 ) -> TreeMatch
-    ensures { λ r. ⌜ (r .answer ≡ matchAnswer (length (now (bodies .entry))) (matchTree (now (tree .entry)) (now (term .entry))))
-        × (now (bodies .exit) ≡ matchWords (length (now (bodies .entry))) (matchTree (now (tree .entry)) (now (term .entry))))
-        × (now (lengths .exit) ≡ matchLengths (length (now (bodies .entry))) (matchTree (now (tree .entry)) (now (term .entry))))
-        × (r .rule ≡ matchTreeRule (length (now (bodies .entry))) (now (tree .entry)) (now (term .entry))) ⌝ }
+    ensures { λ r. ⌜ matchTreeCame (answered (r .answer)) (r .rule) (now (bodies .exit)) (now (lengths .exit)) ≡ matchTreeGives (now (tree .entry)) (now (term .entry)) (length (now (bodies .entry))) ⌝ }
 {
     clear(bodies);
     clear(lengths);

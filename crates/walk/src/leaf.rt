@@ -3,8 +3,8 @@ ghost use mathlib.Core.Path.{_≡_};
 ghost use Prim.Native.Nat.{_≤_};
 ghost use lib.ListN.{length, drop, replicate};
 ghost use Rattle.walk.specs.Walk.{variablesIn};
-ghost use Rattle.walk.specs.State.{placesOf, Parted, Holds, soundLeaf, LeafSound, PartWritten, LeafWritten};
-use crate::state::NODE;
+ghost use Rattle.walk.specs.told.State.{placesOf, Parted, Holds, soundLeaf, LeafSound, PartWritten, LeafWritten};
+use crate::state::NODE_WORDS;
 use crate::state::SECOND;
 use crate::state::Walk;
 use term::lent::clear;
@@ -12,13 +12,13 @@ use term::list::MOST_IDS;
 use term::part::Written;
 use term::part::is_closed;
 use term::part::write_body;
-use term::renumber::Step;
+use term::renumber::Passed;
 
-// Where the k of a variable is.
-pub const COUNT: usize = 1;
+// Where the k of a variable is, after its place.
+pub const K_AT: usize = 1;
 
 // A variable has so many words before its list.
-pub const VARIABLE: usize = 2;
+pub const VARIABLE_WORDS: usize = 2;
 
 // Whether the variables from an address on are sound: each place is uncovered, each list is one for it, and each part has a body.
 pub fn sound_leaf(walk: Walk, tree: &[u32], term: &[u32], from: usize, n: u32) -> bool
@@ -28,12 +28,12 @@ pub fn sound_leaf(walk: Walk, tree: &[u32], term: &[u32], from: usize, n: u32) -
     let mut at = from;
     let mut more = n;
     while more != 0 {
-        if tree.len() - at < VARIABLE {
+        if tree.len() - at < VARIABLE_WORDS {
             return false;
         }
         let place = tree[at] as usize;
-        let k = tree[at + COUNT] as usize;
-        let list = at + VARIABLE;
+        let k = tree[at + K_AT] as usize;
+        let list = at + VARIABLE_WORDS;
         if tree.len() - list < k {
             return false;
         }
@@ -55,14 +55,13 @@ pub fn sound_leaf(walk: Walk, tree: &[u32], term: &[u32], from: usize, n: u32) -
 }
 
 // Writes the body of the part that the words begin with.
-fn write_part(words: &[u32], d: u32, list: &[u32], out: &mut [u32]) -> Step
+fn write_part(words: &[u32], d: u32, list: &[u32], out: &mut [u32]) -> Passed
     ensures { λ r. ⌜ PartWritten d (now (list .entry)) (now (words .entry)) (now (out .entry)) (now (out .exit)) r ⌝ }
 {
     match write_body(words, d, list, out) {
-        Written::Words(n) => Step::Done(n),
-        Written::NoBody => Step::Stuck,
-        Written::Over => Step::Stuck,
-        Written::Short => Step::Stuck,
+        Written::Words(n) => Passed::Done(n),
+        Written::NoBody => Passed::Stuck,
+        Written::Short => Passed::Stuck,
     }
 }
 
@@ -81,23 +80,23 @@ pub fn write_leaf(
 {
     let node = walk.at;
     let vars = tree[node + SECOND] as usize;
-    let mut at = node + NODE;
+    let mut at = node + NODE_WORDS;
     let mut to = 0;
     let mut x: usize = 0;
     while x < vars {
         let place = tree[at] as usize;
-        let list = at + VARIABLE;
-        let end = list + tree[at + COUNT] as usize;
+        let list = at + VARIABLE_WORDS;
+        let end = list + tree[at + K_AT] as usize;
         let offset = walk.offsets[place] as usize;
         let d = walk.depths[place] as u32;
         match write_part(&term[offset..], d, &tree[list..end], &mut bodies[to..]) {
-            Step::Done(n) => {
+            Passed::Done(n) => {
                 lengths[x] = n as u32;
                 to += n;
                 x += 1;
                 at = end;
             }
-            Step::Stuck => {
+            Passed::Stuck => {
                 clear(bodies);
                 clear(lengths);
                 return false;

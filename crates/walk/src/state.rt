@@ -3,16 +3,23 @@ ghost use mathlib.Core.Path.{_≡_};
 ghost use Prim.Native.Nat.{_<_};
 ghost use mathlib.Core.Bool.{false};
 ghost use lib.ListN.{length, getD};
-ghost use Rattle.walk.specs.State.{stoppedAs, entryAt, Parted, Holds, GoTold, EnterTold, CaseTaken, SwitchTold, ClosedTold, SameTold, LeafTold, StepTold, WalkTold};
+ghost use Rattle.walk.specs.told.State.{stoppedAs, entryAt, Parted, Holds, GoTold, EnterTold, CaseTaken, SwitchTold, ClosedTold, SameTold, LeafTold, StepTold, WalkTold};
 use crate::leaf::sound_leaf;
+use crate::taken::CASE_WORDS;
 use crate::taken::Taken;
 use crate::taken::closed_taken;
 use crate::taken::find_case;
 use crate::taken::same_taken;
+use book::limits::MOST_RULES;
+use book::limits::MOST_VARS;
 use term::part::part_end;
 use term::renumber::inside_word;
-use term::word::COUNT;
-use term::word::COUNTS;
+use term::word::count_of;
+use tree::node::CLOSED;
+use tree::node::FAIL;
+use tree::node::LEAF;
+use tree::node::SAME;
+use tree::node::SWITCH;
 
 // Each uncovered place is another part of the term.
 pub const PLACES: usize = 4096;
@@ -26,22 +33,6 @@ pub const RULE: u8 = 2;
 
 pub const DAMAGED: u8 = 3;
 
-// The tags of the nodes.
-pub const FAIL: u32 = 0;
-
-const LEAF: u32 = 1;
-
-pub const SWITCH: u32 = 2;
-
-const CLOSED: u32 = 3;
-
-const SAME: u32 = 4;
-
-// A book has so many rules at most, and a rule so many variables.
-const RULES: u32 = 64;
-
-const MOST_VARS: u32 = 16;
-
 // The words of a node after its tag.
 pub const FIRST: usize = 1;
 
@@ -50,12 +41,9 @@ pub const SECOND: usize = 2;
 const THIRD: usize = 3;
 
 // A Leaf, Switch or Closed has so many words before its variables, cases or list, and a Same before its lists.
-pub const NODE: usize = 3;
+pub const NODE_WORDS: usize = 3;
 
-const SAME_NODE: usize = 4;
-
-// A case has a head word and an address.
-pub const CASE: usize = 2;
+const SAME_WORDS: usize = 4;
 
 // For each uncovered place the offset of its part in the term, the abstractions passed, and whether it was entered.
 pub struct Walk {
@@ -118,7 +106,7 @@ impl Walk {
         self.entered[n] = true;
         let mut count = self.count;
         let mut from = offset + 1;
-        let mut more = word / COUNT % COUNTS;
+        let mut more = count_of(word);
         while more != 0 {
             self.offsets[count] = from as u16;
             self.depths[count] = inner as u8;
@@ -157,7 +145,7 @@ impl Walk {
         ensures { λ r. ⌜ SwitchTold (now (tree .entry)) (now (term .entry)) self r ⌝ }
     {
         let at = self.at;
-        if tree.len() - at < NODE {
+        if tree.len() - at < NODE_WORDS {
             return self.stop(DAMAGED);
         }
         let n = tree[at + FIRST] as usize;
@@ -165,11 +153,11 @@ impl Walk {
         if self.count <= n {
             return self.stop(DAMAGED);
         }
-        let from = at + NODE;
-        if tree.len() - from <= CASE * cases {
+        let from = at + NODE_WORDS;
+        if tree.len() - from <= CASE_WORDS * cases {
             return self.stop(DAMAGED);
         }
-        let default = from + CASE * cases;
+        let default = from + CASE_WORDS * cases;
         let offset = self.offsets[n] as usize;
         match find_case(tree, from, cases, term[offset]) {
             Taken::To(to) => self.take_case(tree, term, n, to),
@@ -183,7 +171,7 @@ impl Walk {
         ensures { λ r. ⌜ ClosedTold (now (tree .entry)) (now (term .entry)) self r ⌝ }
     {
         let at = self.at;
-        if tree.len() - at < NODE {
+        if tree.len() - at < NODE_WORDS {
             return self.stop(DAMAGED);
         }
         let n = tree[at + FIRST] as usize;
@@ -191,7 +179,7 @@ impl Walk {
         if self.count <= n {
             return self.stop(DAMAGED);
         }
-        let from = at + NODE;
+        let from = at + NODE_WORDS;
         let offset = self.offsets[n] as usize;
         match closed_taken(tree, from, k, &term[offset..], self.depths[n] as u32) {
             Taken::To(to) => self.go(tree, to),
@@ -205,7 +193,7 @@ impl Walk {
         ensures { λ r. ⌜ SameTold (now (tree .entry)) (now (term .entry)) self r ⌝ }
     {
         let at = self.at;
-        if tree.len() - at < SAME_NODE {
+        if tree.len() - at < SAME_WORDS {
             return self.stop(DAMAGED);
         }
         let n = tree[at + FIRST] as usize;
@@ -217,7 +205,7 @@ impl Walk {
         if self.count <= m {
             return self.stop(DAMAGED);
         }
-        let from = at + SAME_NODE;
+        let from = at + SAME_WORDS;
         let a = self.offsets[n] as usize;
         let b = self.offsets[m] as usize;
         match same_taken(
@@ -240,17 +228,17 @@ impl Walk {
         ensures { λ r. ⌜ LeafTold (now (tree .entry)) (now (term .entry)) self r ⌝ }
     {
         let at = self.at;
-        if tree.len() - at < NODE {
+        if tree.len() - at < NODE_WORDS {
             return self.stop(DAMAGED);
         }
-        if RULES <= tree[at + FIRST] {
+        if MOST_RULES <= tree[at + FIRST] {
             return self.stop(DAMAGED);
         }
         let n = tree[at + SECOND];
         if MOST_VARS < n {
             return self.stop(DAMAGED);
         }
-        if !sound_leaf(self, tree, term, at + NODE, n) {
+        if !sound_leaf(self, tree, term, at + NODE_WORDS, n) {
             return self.stop(DAMAGED);
         }
         self.stop(RULE)

@@ -2,14 +2,14 @@
 ghost use mathlib.Core.Path.{_≡_};
 ghost use Prim.Native.Nat.{_+_, _*_, _≤_};
 ghost use lib.ListN.{length, drop};
-ghost use Rattle.walk.specs.Taken.{CaseTold, closedTaken, sameTaken};
+ghost use Rattle.walk.specs.told.Taken.{CaseTold, closedTaken, sameTaken};
 use term::list::MOST_IDS;
 use term::list::good_list;
 use term::part::is_closed;
 use term::part::same_body;
 
-// A case has a head word and an address.
-const CASE: usize = 2;
+// A case has so many words: a head word and an address.
+pub const CASE_WORDS: usize = 2;
 
 pub enum Taken {
     To(u32),
@@ -28,7 +28,7 @@ pub fn find_case(tree: &[u32], from: usize, cases: usize, word: u32) -> Taken
         if tree[at] == word {
             return Taken::To(tree[next]);
         }
-        at = at + CASE;
+        at = at + CASE_WORDS;
         more = more - 1;
     }
     Taken::Not
@@ -47,10 +47,11 @@ pub fn closed_taken(tree: &[u32], from: usize, k: usize, words: &[u32], d: u32) 
     }
     let yes = from + k;
     let no = yes + 1;
-    if !good_list(d, &tree[from..yes]) {
+    let list = &tree[from..yes];
+    if !good_list(d, list) {
         return Taken::Not;
     }
-    if is_closed(words, d, &tree[from..yes]) {
+    if is_closed(words, d, list) {
         return Taken::To(tree[yes]);
     }
     Taken::To(tree[no])
@@ -78,13 +79,15 @@ pub fn same_taken(
     let other = from + k;
     let yes = other + k;
     let no = yes + 1;
-    if !good_list(d, &tree[from..other]) {
+    let list = &tree[from..other];
+    if !good_list(d, list) {
         return Taken::Not;
     }
-    if !good_list(e, &tree[other..yes]) {
+    let next = &tree[other..yes];
+    if !good_list(e, next) {
         return Taken::Not;
     }
-    if same_body(words, d, &tree[from..other], others, e, &tree[other..yes]) {
+    if same_body(words, d, list, others, e, next) {
         return Taken::To(tree[yes]);
     }
     Taken::To(tree[no])

@@ -3,27 +3,27 @@ ghost use mathlib.Core.Path.{_≡_};
 ghost use Prim.Native.Nat.{_+_, _≤_, _<_};
 ghost use lib.ListN.{length, drop, replicate};
 ghost use Rattle.walk.specs.Walk.{variablesIn};
-ghost use Rattle.walk.specs.State.{Parted, WalkTold};
-ghost use Rattle.walk.specs.WithBook.{bookWalk, countsIn, leafFits, SkipTold, BookWalked};
-use crate::by_tree::MOST_TREE;
-use crate::leaf::COUNT;
-use crate::leaf::VARIABLE;
+ghost use Rattle.walk.specs.told.State.{Parted, WalkTold};
+ghost use Rattle.walk.specs.told.WithBook.{bookWalk, countsIn, leafFits, SkipTold, BookWalked};
+use crate::leaf::K_AT;
+use crate::leaf::VARIABLE_WORDS;
 use crate::leaf::write_leaf;
-use crate::state::CASE;
-use crate::state::FAIL;
 use crate::state::FIRST;
 use crate::state::NO_RULE;
-use crate::state::NODE;
+use crate::state::NODE_WORDS;
 use crate::state::RULE;
 use crate::state::SECOND;
-use crate::state::SWITCH;
 use crate::state::Walk;
 use crate::state::walk_tree;
+use crate::taken::CASE_WORDS;
 use crate::taken::Taken;
 use crate::taken::find_case;
 use book::book::Found;
 use book::book::find_rule;
 use book::variables::counted_in;
+use tree::node::FAIL;
+use tree::node::MOST_TREE;
+use tree::node::SWITCH;
 
 // The rule that the walk found, or why there is none.
 pub enum BookMatch {
@@ -40,11 +40,11 @@ fn counts_fit(tree: &[u32], from: usize, n: u32, left: &[u32]) -> bool
     let mut at = from;
     let mut x: u32 = 0;
     while x < n {
-        if tree.len() - at < VARIABLE {
+        if tree.len() - at < VARIABLE_WORDS {
             return false;
         }
-        let k = tree[at + COUNT];
-        let list = at + VARIABLE;
+        let k = tree[at + K_AT];
+        let list = at + VARIABLE_WORDS;
         if tree.len() - list < k as usize {
             return false;
         }
@@ -75,14 +75,14 @@ fn leaf_fits(book: &[u32], tree: &[u32], at: usize) -> bool
     }
     let left = sides.left;
     let right = sides.right;
-    counts_fit(tree, at + NODE, n, &book[left..right])
+    counts_fit(tree, at + NODE_WORDS, n, &book[left..right])
 }
 
 // Whether the tree's root is a Switch on the place 0 that has no case for a word, and its default is a Fail. No state is needed to say so.
 fn skips(tree: &[u32], word: u32) -> bool
     ensures { λ r. ⌜ SkipTold (now (tree .entry)) word r ⌝ }
 {
-    if tree.len() < NODE {
+    if tree.len() < NODE_WORDS {
         return false;
     }
     if tree[0] != SWITCH {
@@ -92,10 +92,10 @@ fn skips(tree: &[u32], word: u32) -> bool
         return false;
     }
     let cases = tree[SECOND] as usize;
-    if tree.len() - NODE <= CASE * cases {
+    if tree.len() - NODE_WORDS <= CASE_WORDS * cases {
         return false;
     }
-    let default = tree[NODE + CASE * cases] as usize;
+    let default = tree[NODE_WORDS + CASE_WORDS * cases] as usize;
     if default == 0 {
         return false;
     }
@@ -105,7 +105,7 @@ fn skips(tree: &[u32], word: u32) -> bool
     if tree[default] != FAIL {
         return false;
     }
-    match find_case(tree, NODE, cases, word) {
+    match find_case(tree, NODE_WORDS, cases, word) {
         Taken::To(_) => false,
         Taken::Not => true,
     }

@@ -26,18 +26,19 @@ walk-tree-requires c κs =
 
 match-walk-requires : tie.Need-match-walk-requires
 match-walk-requires c κs =
+    let far = c .before .before .before .before .before .before .before .before .before .before .before in
     let s = c .before .before .before .before .before .before .before .before .before .before .before .before .before .before .before .before .args in
     let g = sym (c .before .before .before .before .before .before .check-term .ensures) ∙ c .before .before .before .before .enum-told .given .1 in (
       term-parted (s .tree .now) (s .term .now) 0 g,
       c .before .before .walk-tree .ensures,
-      c .before .before .before .before .before .before .before .before .before .before .before .clear .ensures ∙ ap (λ (n : ℕ). replicate n 0) (sym (c .before .before .before .before .before .before .before .before .before .before .before .clear .kept .0)),
+      far .clear .ensures ∙ ap (λ (n : ℕ). replicate n 0) (sym (far .clear .kept .0)),
       cleared _ _ _ (c .before .before .before .before .before .before .before .before .clear-arg2 .given .0 .1) (c .before .before .before .before .before .before .before .clear2 .ensures),
     )
 
 returns-3 : tie.Need-returns-3
 returns-3 c =
     let s = c .before .before .before .before .before .before .before .before .before .before .before .before .before .before .before .before .before .before .before .args in
-    match-walked (s .tree .now) (s .term .now) (length (s .bodies .now)) (sym (c .before .before .before .before .before .before .before .before .before .check-term .ensures) ∙ c .before .before .before .before .before .before .before .enum-told .given .1) (omega (arith, c .before .before .before .before .before .before .if1 .left)) _ _ _ (rw (c .before .before .before .before .before .before .before .before .before .before .before .before .before .before .clear .kept .0) at (c .before .before .match-walk .ensures))
+    match-walked (s .tree .now) (s .term .now) (length (s .bodies .now)) (sym (c .before .before .before .before .before .before .before .before .before .check-term .ensures) ∙ c .before .before .before .before .before .before .before .enum-told .given .1) (omega (arith, c .before .before .before .before .before .before .if1 .left)) _ (rw (c .before .before .before .before .before .before .before .before .before .before .before .before .before .before .clear .kept .0) at (c .before .before .match-walk .ensures))
 
 pub match-tree-spec : {M : Type 1} → statement M
 match-tree-spec =

@@ -9,34 +9,47 @@ use Rattle.walk.proofs.by_tree.match_walk.Statement.{statement}
 use Rattle.walk.proofs.by_tree.match_walk.Tie as tie
 
 returns : tie.Need-returns
-returns c = let s = c .before .before .before .before .before .before .args in match-none (s .tree .now) (s .term .now) (s .walk) (c .before .before .before .before .before .before .pre .1) (length (s .bodies .now)) _ _ (c .before .before .before .before .before .before .pre .2) (c .before .before .before .before .before .before .pre .3) (c .if1 .taken) _ refl refl
+returns c =
+    let start = c .before .before .before .before .before .before in
+    let s = start .args in match-none (s .tree .now) (s .term .now) (s .walk) (start .pre .1) (length (s .bodies .now)) _ _ (start .pre .2) (start .pre .3) (c .if1 .taken) _ refl refl
 
 returns-2 : tie.Need-returns-2
-returns-2 c = let s = c .before .before .before .before .before .before .before .before .args in match-damaged (s .tree .now) (s .term .now) (s .walk) (c .before .before .before .before .before .before .before .before .pre .1) (length (s .bodies .now)) _ _ (c .before .before .before .before .before .before .before .before .pre .2) (c .before .before .before .before .before .before .before .before .pre .3) (c .before .before .if1 .left) (c .if2 .taken) _ refl refl
+returns-2 c =
+    let start = c .before .before .before .before .before .before .before .before in
+    let s = start .args in match-damaged (s .tree .now) (s .term .now) (s .walk) (start .pre .1) (length (s .bodies .now)) _ _ (start .pre .2) (start .pre .3) (c .before .before .if1 .left) (c .if2 .taken) _ refl refl
 
 write-leaf-requires : tie.Need-write-leaf-requires
 write-leaf-requires c κs =
-    let s = c .before .before .before .before .before .before .before .before .before .before .args in
-    (c .before .before .before .before .before .before .before .before .before .before .pre .0, ended-holds (s .tree .now) (s .term .now) (s .walk) (c .before .before .before .before .before .before .before .before .before .before .pre .1), ended-sound (s .tree .now) (s .term .now) (s .walk) (c .before .before .before .before .before .before .before .before .before .before .pre .1) (c .before .before .if2 .left), c .before .before .before .before .before .before .before .before .before .before .pre .2, c .before .before .before .before .before .before .before .before .before .before .pre .3)
+    let start = c .before .before .before .before .before .before .before .before .before .before in
+    let s = start .args in
+    (start .pre .0, ended-holds (s .tree .now) (s .term .now) (s .walk) (start .pre .1), ended-sound (s .tree .now) (s .term .now) (s .walk) (start .pre .1) (c .before .before .if2 .left), start .pre .2, start .pre .3)
 
 returns-3 : tie.Need-returns-3
 returns-3 c =
-    let s = c .before .before .before .before .before .before .before .before .before .before .before .before .before .before .before .before .args in
-    match-short (s .tree .now) (s .term .now) (s .walk) (c .before .before .before .before .before .before .before .before .before .before .before .before .before .before .before .before .pre .1) (length (s .bodies .now)) _ _ (c .before .before .before .before .before .before .before .before .if2 .left) _ (not-true _ (c .if3 .taken)) (c .before .before .before .before .before .write-leaf .ensures) _ refl refl
+    let start = c .before .before .before .before .before .before .before .before .before .before .before .before .before .before .before .before in
+    let s = start .args in
+    match-short (s .tree .now) (s .term .now) (s .walk) (start .pre .1) (length (s .bodies .now)) _ _ (c .before .before .before .before .before .before .before .before .if2 .left) _ (not-true _ (c .if3 .taken)) (c .before .before .before .before .before .write-leaf .ensures) _ refl refl
 
 add-t17 : tie.Need-add-t17
-add-t17 c = let s = c .before .before .before .before .before .before .before .before .before .before .before .before .before .before .before .before .args in let l = ended-sound (s .tree .now) (s .term .now) (s .walk) (c .before .before .before .before .before .before .before .before .before .before .before .before .before .before .before .before .pre .1) (c .before .before .before .before .before .before .before .before .if2 .left) in omega (arith, l .inside)
+add-t17 c =
+    let start = c .before .before .before .before .before .before .before .before .before .before .before .before .before .before .before .before in
+    let s = start .args in let l = ended-sound (s .tree .now) (s .term .now) (s .walk) (start .pre .1) (c .before .before .before .before .before .before .before .before .if2 .left) in omega (arith, l .inside)
 
 mul-t18 : tie.Need-mul-t18
-mul-t18 c = let s = c .before .before .before .before .before .before .before .before .before .before .before .before .before .before .before .before .args in let l = ended-sound (s .tree .now) (s .term .now) (s .walk) (c .before .before .before .before .before .before .before .before .before .before .before .before .before .before .before .before .pre .1) (c .before .before .before .before .before .before .before .before .if2 .left) in omega (arith, l .inside)
+mul-t18 c =
+    let start = c .before .before .before .before .before .before .before .before .before .before .before .before .before .before .before .before in
+    let s = start .args in let l = ended-sound (s .tree .now) (s .term .now) (s .walk) (start .pre .1) (c .before .before .before .before .before .before .before .before .if2 .left) in omega (arith, l .inside)
 
 shared-slice-read-t20 : tie.Need-shared-slice-read-t20
-shared-slice-read-t20 c = let s = c .before .before .before .before .before .before .before .before .before .before .before .before .before .before .before .before .before .args in let l = ended-sound (s .tree .now) (s .term .now) (s .walk) (c .before .before .before .before .before .before .before .before .before .before .before .before .before .before .before .before .before .pre .1) (c .before .before .before .before .before .before .before .before .before .if2 .left) in omega (arith, l .inside)
+shared-slice-read-t20 c =
+    let start = c .before .before .before .before .before .before .before .before .before .before .before .before .before .before .before .before .before in
+    let s = start .args in let l = ended-sound (s .tree .now) (s .term .now) (s .walk) (start .pre .1) (c .before .before .before .before .before .before .before .before .before .if2 .left) in omega (arith, l .inside)
 
 returns-4 : tie.Need-returns-4
 returns-4 c =
-    let s = c .before .before .before .before .before .before .before .before .before .before .before .before .before .before .before .before .before .args in
-    match-done (s .tree .now) (s .term .now) (s .walk) (c .before .before .before .before .before .before .before .before .before .before .before .before .before .before .before .before .before .pre .1) (length (s .bodies .now)) _ _ (c .before .before .before .before .before .before .before .before .before .if2 .left) _ (not-false _ (c .before .if3 .left)) (c .before .before .before .before .before .before .write-leaf .ensures) _ refl refl
+    let start = c .before .before .before .before .before .before .before .before .before .before .before .before .before .before .before .before .before in
+    let s = start .args in
+    match-done (s .tree .now) (s .term .now) (s .walk) (start .pre .1) (length (s .bodies .now)) _ _ (c .before .before .before .before .before .before .before .before .before .if2 .left) _ (not-false _ (c .before .if3 .left)) (c .before .before .before .before .before .before .write-leaf .ensures) _ refl refl
 
 pub match-walk-spec : {M : Type 1} → statement M
 match-walk-spec =

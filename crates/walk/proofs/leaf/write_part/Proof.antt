@@ -7,16 +7,15 @@ use Rattle.walk.proofs.leaf.write_part.Statement.{statement}
 use Rattle.walk.proofs.leaf.write_part.Tie as tie
 
 returns : tie.Need-returns
-returns c = let s = c .before .before .before .before .before .before .before .before .before .before .args in part-written (s .d) (s .list .now) (s .words .now) (s .out .now) _ _ (sym (c .before .n .given .1) ∙ c .before .before .before .before .before .write-body .ensures .0) (c .before .before .before .before .before .write-body .ensures .1)
+returns c =
+    let far = c .before .before .before .before .before in
+    let s = c .before .before .before .before .before .before .before .before .before .before .args in part-written (s .d) (s .list .now) (s .words .now) (s .out .now) _ _ (sym (c .before .n .given .1) ∙ far .write-body .ensures .0) (far .write-body .ensures .1)
 
 returns-2 : tie.Need-returns-2
 returns-2 c = let s = c .before .before .before .before .before .before .before .before .before .args in part-short (s .d) (s .list .now) (s .words .now) (s .out .now) _ _ (sym (c .enum-told .given .1) ∙ c .before .before .before .before .write-body .ensures .0) (λ n e. never (cc))
 
 returns-3 : tie.Need-returns-3
 returns-3 c = let s = c .before .before .before .before .before .before .before .before .before .args in part-short (s .d) (s .list .now) (s .words .now) (s .out .now) _ _ (sym (c .enum-told2 .given .1) ∙ c .before .before .before .before .write-body .ensures .0) (λ n e. never (cc))
-
-returns-4 : tie.Need-returns-4
-returns-4 c = let s = c .before .before .before .before .before .before .before .before .before .args in part-short (s .d) (s .list .now) (s .words .now) (s .out .now) _ _ (sym (c .enum-told3 .given .1) ∙ c .before .before .before .before .write-body .ensures .0) (λ n e. never (cc))
 
 pub write-part-spec : {M : Type 1} → statement M
 write-part-spec =
@@ -27,11 +26,8 @@ write-part-spec =
     (λ c. search needs)
     (λ c. search needs)
     (λ c. search needs)
-    (λ c. search needs)
     returns
     (λ c. search needs)
     returns-2
     (λ c. search needs)
-    returns-3
-    (λ c. search needs)
-    returns-4)
+    returns-3)

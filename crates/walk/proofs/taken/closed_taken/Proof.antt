@@ -20,13 +20,13 @@ returns-3 c =
 
 returns-4 : tie.Need-returns-4
 returns-4 c =
-    let s = c .before .before .before .before .before .before .before .before .before .before .before .args in
-    closed-yes (s .d) (s .words .now) (s .tree .now) (s .from) (s .k) (omega (arith, c .before .before .before .before .before .before .before .before .if1 .left)) (omega (arith, c .before .before .before .before .before .before .before .if2 .left)) (sym (not-false _ (c .before .before .before .before .if3 .left)) ∙ c .before .before .before .before .before .good-list .ensures) (sym (c .before .if4 .taken) ∙ c .before .before .is-closed .ensures)
+    let s = c .before .before .before .before .before .before .before .before .before .before .args in
+    closed-yes (s .d) (s .words .now) (s .tree .now) (s .from) (s .k) (omega (arith, c .before .before .before .before .before .before .before .if1 .left)) (omega (arith, c .before .before .before .before .before .before .if2 .left)) (sym (not-false _ (c .before .before .before .if3 .left)) ∙ c .before .before .before .before .good-list .ensures) (sym (c .before .if4 .taken) ∙ c .before .before .is-closed .ensures)
 
 returns-5 : tie.Need-returns-5
 returns-5 c =
-    let s = c .before .before .before .before .before .before .before .before .before .before .before .args in
-    closed-no (s .d) (s .words .now) (s .tree .now) (s .from) (s .k) (omega (arith, c .before .before .before .before .before .before .before .before .if1 .left)) (omega (arith, c .before .before .before .before .before .before .before .if2 .left)) (sym (not-false _ (c .before .before .before .before .if3 .left)) ∙ c .before .before .before .before .before .good-list .ensures) (sym (c .before .if4 .left) ∙ c .before .before .is-closed .ensures)
+    let s = c .before .before .before .before .before .before .before .before .before .before .args in
+    closed-no (s .d) (s .words .now) (s .tree .now) (s .from) (s .k) (omega (arith, c .before .before .before .before .before .before .before .if1 .left)) (omega (arith, c .before .before .before .before .before .before .if2 .left)) (sym (not-false _ (c .before .before .before .if3 .left)) ∙ c .before .before .before .before .good-list .ensures) (sym (c .before .if4 .left) ∙ c .before .before .is-closed .ensures)
 
 pub closed-taken-spec : {M : Type 1} → statement M
 closed-taken-spec =
@@ -44,10 +44,6 @@ closed-taken-spec =
     (λ c. search needs)
     (λ c κs. search needs)
     returns-3
-    (λ c. search needs)
-    (λ c. search needs)
-    (λ c. search needs)
-    (λ c. search needs)
     (λ c κs. search needs)
     (λ c. search needs)
     (λ c. search needs)

@@ -26,15 +26,15 @@ returns-4 c =
 
 returns-5 : tie.Need-returns-5
 returns-5 c =
-    let s = c .before .before .before .before .before .before .before .before .before .before .before .before .before .before .before .before .args in
-    same-yes (s .d) (s .words .now) (s .e) (s .others .now) (s .tree .now) (s .from) (s .k) (omega (arith, c .before .before .before .before .before .before .before .before .before .before .before .before .if1 .left)) (omega (arith, c .before .before .before .before .before .before .before .before .before .before .before .if2 .left)) (sym (not-false _ (c .before .before .before .before .before .before .before .before .if3 .left)) ∙ c .before .before .before .before .before .before .before .before .before .good-list .ensures)
-    (sym (not-false _ (c .before .before .before .before .before .if4 .left)) ∙ c .before .before .before .before .before .before .good-list2 .ensures) (sym (c .before .if5 .taken) ∙ c .before .before .same-body .ensures)
+    let s = c .before .before .before .before .before .before .before .before .before .before .before .before .before .before .args in
+    same-yes (s .d) (s .words .now) (s .e) (s .others .now) (s .tree .now) (s .from) (s .k) (omega (arith, c .before .before .before .before .before .before .before .before .before .before .if1 .left)) (omega (arith, c .before .before .before .before .before .before .before .before .before .if2 .left)) (sym (not-false _ (c .before .before .before .before .before .before .if3 .left)) ∙ c .before .before .before .before .before .before .before .good-list .ensures)
+    (sym (not-false _ (c .before .before .before .if4 .left)) ∙ c .before .before .before .before .good-list2 .ensures) (sym (c .before .if5 .taken) ∙ c .before .before .same-body .ensures)
 
 returns-6 : tie.Need-returns-6
 returns-6 c =
-    let s = c .before .before .before .before .before .before .before .before .before .before .before .before .before .before .before .before .args in
-    same-no (s .d) (s .words .now) (s .e) (s .others .now) (s .tree .now) (s .from) (s .k) (omega (arith, c .before .before .before .before .before .before .before .before .before .before .before .before .if1 .left)) (omega (arith, c .before .before .before .before .before .before .before .before .before .before .before .if2 .left)) (sym (not-false _ (c .before .before .before .before .before .before .before .before .if3 .left)) ∙ c .before .before .before .before .before .before .before .before .before .good-list .ensures)
-    (sym (not-false _ (c .before .before .before .before .before .if4 .left)) ∙ c .before .before .before .before .before .before .good-list2 .ensures) (sym (c .before .if5 .left) ∙ c .before .before .same-body .ensures)
+    let s = c .before .before .before .before .before .before .before .before .before .before .before .before .before .before .args in
+    same-no (s .d) (s .words .now) (s .e) (s .others .now) (s .tree .now) (s .from) (s .k) (omega (arith, c .before .before .before .before .before .before .before .before .before .before .if1 .left)) (omega (arith, c .before .before .before .before .before .before .before .before .before .if2 .left)) (sym (not-false _ (c .before .before .before .before .before .before .if3 .left)) ∙ c .before .before .before .before .before .before .before .good-list .ensures)
+    (sym (not-false _ (c .before .before .before .if4 .left)) ∙ c .before .before .before .before .good-list2 .ensures) (sym (c .before .if5 .left) ∙ c .before .before .same-body .ensures)
 
 pub same-taken-spec : {M : Type 1} → statement M
 same-taken-spec =
@@ -60,14 +60,6 @@ same-taken-spec =
     (λ c. search needs)
     (λ c κs. search needs)
     returns-4
-    (λ c. search needs)
-    (λ c. search needs)
-    (λ c. search needs)
-    (λ c. search needs)
-    (λ c. search needs)
-    (λ c. search needs)
-    (λ c. search needs)
-    (λ c. search needs)
     (λ c κs. search needs)
     (λ c. search needs)
     (λ c. search needs)

@@ -4,43 +4,58 @@ use borrow.Author.Tests.{not-true, not-false}
 use native.Mathlib.Omega.{arith}
 use mathlib.Core.Path.{refl, sym, ap, _∙_}
 use Prim.Native.Nat.{ℕ}
-use lib.ListN.{length, replicate}
+use lib.ListN.{length, replicate, length-replicate}
 use Rattle.walk.proofs.Answers.{ended-holds, ended-sound}
 use Rattle.walk.proofs.BookEnds.{with-none, with-damaged, with-unfit, with-rule}
 use Rattle.walk.proofs.with_book.match_with.Statement.{statement}
 use Rattle.walk.proofs.with_book.match_with.Tie as tie
 
 returns : tie.Need-returns
-returns c = let s = c .before .before .before .before .before .before .before .args in with-none (s .book .now) (s .tree .now) (s .term .now) (c .before .before .before .before .before .before .before .pre .3) (s .walk) (c .before .before .before .before .before .before .before .pre .2) _ _ _ (c .before .before .before .before .before .before .before .pre .4) (c .before .before .before .before .before .before .before .pre .5) (c .if1 .taken) refl
+returns c =
+    let start = c .before .before .before .before .before .before .before in
+    let s = start .args in with-none (s .book .now) (s .tree .now) (s .term .now) (start .pre .3) (s .walk) (start .pre .2) _ _ _ (start .pre .4) (start .pre .5) (c .if1 .taken) refl
 
 returns-2 : tie.Need-returns-2
-returns-2 c = let s = c .before .before .before .before .before .before .before .before .before .args in with-damaged (s .book .now) (s .tree .now) (s .term .now) (c .before .before .before .before .before .before .before .before .before .pre .3) (s .walk) (c .before .before .before .before .before .before .before .before .before .pre .2) _ _ _ (c .before .before .before .before .before .before .before .before .before .pre .4) (c .before .before .before .before .before .before .before .before .before .pre .5) (c .before .before .if1 .left) (c .if2 .taken) refl
+returns-2 c =
+    let start = c .before .before .before .before .before .before .before .before .before in
+    let s = start .args in with-damaged (s .book .now) (s .tree .now) (s .term .now) (start .pre .3) (s .walk) (start .pre .2) _ _ _ (start .pre .4) (start .pre .5) (c .before .before .if1 .left) (c .if2 .taken) refl
 
 leaf-fits-requires : tie.Need-leaf-fits-requires
-leaf-fits-requires c κs = let s = c .before .before .before .before .before .before .before .before .before .args in ended-sound (s .tree .now) (s .term .now) (s .walk) (c .before .before .before .before .before .before .before .before .before .pre .2) (c .if2 .left) .inside
+leaf-fits-requires c κs =
+    let start = c .before .before .before .before .before .before .before .before .before in
+    let s = start .args in ended-sound (s .tree .now) (s .term .now) (s .walk) (start .pre .2) (c .if2 .left) .inside
 
 returns-3 : tie.Need-returns-3
-returns-3 c = let s = c .before .before .before .before .before .before .before .before .before .before .before .args in with-unfit (s .book .now) (s .tree .now) (s .term .now) (c .before .before .before .before .before .before .before .before .before .before .before .pre .3) (s .walk) (c .before .before .before .before .before .before .before .before .before .before .before .pre .2) _ _ _ (c .before .before .if2 .left) (c .before .before .before .before .before .before .before .before .before .before .before .pre .4) (c .before .before .before .before .before .before .before .before .before .before .before .pre .5) (sym (c .before .leaf-fits .ensures) ∙ not-true _ (c .if3 .taken)) refl
+returns-3 c =
+    let start = c .before .before .before .before .before .before .before .before .before .before .before in
+    let s = start .args in with-unfit (s .book .now) (s .tree .now) (s .term .now) (start .pre .3) (s .walk) (start .pre .2) _ _ _ (c .before .before .if2 .left) (start .pre .4) (start .pre .5) (sym (c .before .leaf-fits .ensures) ∙ not-true _ (c .if3 .taken)) refl
 
 write-leaf-requires : tie.Need-write-leaf-requires
 write-leaf-requires c κs =
-    let s = c .before .before .before .before .before .before .before .before .before .before .before .before .before .args in
-    (c .before .before .before .before .before .before .before .before .before .before .before .before .before .pre .0, ended-holds (s .tree .now) (s .term .now) (s .walk) (c .before .before .before .before .before .before .before .before .before .before .before .before .before .pre .2), ended-sound (s .tree .now) (s .term .now) (s .walk) (c .before .before .before .before .before .before .before .before .before .before .before .before .before .pre .2) (c .before .before .before .before .if2 .left), c .before .before .before .before .before .before .before .before .before .before .before .before .before .pre .4 ∙ ap (λ (n : ℕ). replicate n 0) (sym (ap length (c .before .before .before .before .before .before .before .before .before .before .before .before .before .pre .4))), c .before .before .before .before .before .before .before .before .before .before .before .before .before .pre .5)
+    let start = c .before .before .before .before .before .before .before .before .before .before .before .before .before in
+    let s = start .args in
+    (start .pre .0, ended-holds (s .tree .now) (s .term .now) (s .walk) (start .pre .2), ended-sound (s .tree .now) (s .term .now) (s .walk) (start .pre .2) (c .before .before .before .before .if2 .left), start .pre .4 ∙ ap (λ (n : ℕ). replicate n 0) (sym (ap length (start .pre .4))), start .pre .5)
 
 add-t14 : tie.Need-add-t14
-add-t14 c = let s = c .before .before .before .before .before .before .before .before .before .before .before .before .before .before .before .before .before .before .args in let l = ended-sound (s .tree .now) (s .term .now) (s .walk) (c .before .before .before .before .before .before .before .before .before .before .before .before .before .before .before .before .before .before .pre .2) (c .before .before .before .before .before .before .before .before .before .if2 .left) in omega (arith, l .inside)
+add-t14 c =
+    let start = c .before .before .before .before .before .before .before .before .before .before .before .before .before .before .before .before .before .before in
+    let s = start .args in let l = ended-sound (s .tree .now) (s .term .now) (s .walk) (start .pre .2) (c .before .before .before .before .before .before .before .before .before .if2 .left) in omega (arith, l .inside)
 
 mul-t15 : tie.Need-mul-t15
-mul-t15 c = let s = c .before .before .before .before .before .before .before .before .before .before .before .before .before .before .before .before .before .before .args in let l = ended-sound (s .tree .now) (s .term .now) (s .walk) (c .before .before .before .before .before .before .before .before .before .before .before .before .before .before .before .before .before .before .pre .2) (c .before .before .before .before .before .before .before .before .before .if2 .left) in omega (arith, l .inside)
+mul-t15 c =
+    let start = c .before .before .before .before .before .before .before .before .before .before .before .before .before .before .before .before .before .before in
+    let s = start .args in let l = ended-sound (s .tree .now) (s .term .now) (s .walk) (start .pre .2) (c .before .before .before .before .before .before .before .before .before .if2 .left) in omega (arith, l .inside)
 
 shared-slice-read-t17 : tie.Need-shared-slice-read-t17
-shared-slice-read-t17 c = let s = c .before .before .before .before .before .before .before .before .before .before .before .before .before .before .before .before .before .before .before .args in let l = ended-sound (s .tree .now) (s .term .now) (s .walk) (c .before .before .before .before .before .before .before .before .before .before .before .before .before .before .before .before .before .before .before .pre .2) (c .before .before .before .before .before .before .before .before .before .before .if2 .left) in omega (arith, l .inside)
+shared-slice-read-t17 c =
+    let start = c .before .before .before .before .before .before .before .before .before .before .before .before .before .before .before .before .before .before .before in
+    let s = start .args in let l = ended-sound (s .tree .now) (s .term .now) (s .walk) (start .pre .2) (c .before .before .before .before .before .before .before .before .before .before .if2 .left) in omega (arith, l .inside)
 
 returns-4 : tie.Need-returns-4
 returns-4 c =
-    let s = c .before .before .before .before .before .before .before .before .before .before .before .before .before .before .before .before .before .before .before .args in
-    with-rule (s .book .now) (s .tree .now) (s .term .now) (c .before .before .before .before .before .before .before .before .before .before .before .before .before .before .before .before .before .before .before .pre .3) (s .walk) (c .before .before .before .before .before .before .before .before .before .before .before .before .before .before .before .before .before .before .before .pre .2) _ _ _ (c .before .before .before .before .before .before .before .before .before .before .if2 .left) (c .before .before .before .before .before .before .before .before .before .before .before .before .before .before .before .before .before .before .before .pre .0) (c .before .before .before .before .before .before .before .before .before .before .before .before .before .before .before .before .before .before .before .pre .1) (sym (c .before .before .before .before .before .before .before .before .before .leaf-fits .ensures) ∙ not-false _ (c .before .before .before .before .before .before .before .before .if3 .left)) _
-    (rw (ap length (c .before .before .before .before .before .before .before .before .before .before .before .before .before .before .before .before .before .before .before .pre .4)) at (c .before .before .before .before .before .write-leaf .ensures)) refl
+    let start = c .before .before .before .before .before .before .before .before .before .before .before .before .before .before .before .before .before .before .before in
+    let s = start .args in
+    with-rule (s .book .now) (s .tree .now) (s .term .now) (start .pre .3) (s .walk) (start .pre .2) _ _ _ (c .before .before .before .before .before .before .before .before .before .before .if2 .left) (start .pre .0) (start .pre .1) (sym (c .before .before .before .before .before .before .before .before .before .leaf-fits .ensures) ∙ not-false _ (c .before .before .before .before .before .before .before .before .if3 .left)) _ (ap length (start .pre .4) ∙ length-replicate {A = ℕ} 65536 0) _ (c .before .before .before .before .before .write-leaf .ensures) refl
 
 pub match-with-spec : {M : Type 1} → statement M
 match-with-spec =

@@ -7,19 +7,27 @@ use Rattle.walk.proofs.with_book.walk_book.Statement.{statement}
 use Rattle.walk.proofs.with_book.walk_book.Tie as tie
 
 returns : tie.Need-returns
-returns c = let s = c .before .before .before .before .before .before .args in with-long (s .book .now) (s .tree .now) (s .term .now) _ _ _ (c .before .before .before .before .before .before .pre .2) (c .before .before .before .before .before .before .pre .3) (c .if1 .taken) refl
+returns c =
+    let start = c .before .before .before .before .before .before in
+    let s = start .args in with-long (s .book .now) (s .tree .now) (s .term .now) _ _ _ (start .pre .2) (start .pre .3) (c .if1 .taken) refl
 
 shared-slice-read-skips : tie.Need-shared-slice-read-skips
 shared-slice-read-skips c = c .before .before .before .before .before .before .before .pre .1
 
 returns-2 : tie.Need-returns-2
-returns-2 c = let s = c .before .before .before .before .before .before .before .before .before .args in with-skip (s .book .now) (s .tree .now) (s .term .now) _ _ _ (c .before .before .before .before .before .before .before .before .before .pre .2) (c .before .before .before .before .before .before .before .before .before .pre .3) (omega (arith, c .before .before .before .if1 .left)) (c .before .before .before .before .before .before .before .before .before .pre .0) (c .before .before .before .before .before .before .before .before .before .pre .1) _ (c .if2 .taken) (c .before .skips .ensures) refl
+returns-2 c =
+    let start = c .before .before .before .before .before .before .before .before .before in
+    let s = start .args in with-skip (s .book .now) (s .tree .now) (s .term .now) _ _ _ (start .pre .2) (start .pre .3) (omega (arith, c .before .before .before .if1 .left)) (start .pre .0) (start .pre .1) _ (c .if2 .taken) (c .before .skips .ensures) refl
 
 walk-tree-requires : tie.Need-walk-tree-requires
-walk-tree-requires c κs = (c .before .before .before .before .before .before .before .before .before .pre .0, c .before .before .before .before .before .before .before .before .before .pre .1)
+walk-tree-requires c κs =
+    let start = c .before .before .before .before .before .before .before .before .before in
+    (start .pre .0, start .pre .1)
 
 match-with-requires : tie.Need-match-with-requires
-match-with-requires c κs = (c .before .before .before .before .before .before .before .before .before .before .before .before .pre .0, c .before .before .before .before .before .before .before .before .before .before .before .before .pre .1, c .before .before .walk-tree .ensures, omega (arith, c .before .before .before .before .before .before .if1 .left), c .before .before .before .before .before .before .before .before .before .before .before .before .pre .2, c .before .before .before .before .before .before .before .before .before .before .before .before .pre .3)
+match-with-requires c κs =
+    let start = c .before .before .before .before .before .before .before .before .before .before .before .before in
+    (start .pre .0, start .pre .1, c .before .before .walk-tree .ensures, omega (arith, c .before .before .before .before .before .before .if1 .left), start .pre .2, start .pre .3)
 
 returns-3 : tie.Need-returns-3
 returns-3 c = c .before .before .before .before .match-with .ensures

@@ -17,85 +17,105 @@ abbrev μ-loop : tie.MeasureT-loop
 μ-loop term n to self₀ offset word inner count₀ from₀ more₀ self count from more = more
 
 mul-word : tie.Need-mul-word Inv-loop μ-loop
-mul-word c = omega (arith, c .before .before .pre .1 .within _ (c .before .before .pre .2))
+mul-word c =
+    let start = c .before .before in
+    omega (arith, start .pre .1 .within _ (start .pre .2))
 
 shared-slice-read-word : tie.Need-shared-slice-read-word Inv-loop μ-loop
-shared-slice-read-word c = c .before .before .before .pre .1 .within _ (c .before .before .before .pre .2)
+shared-slice-read-word c =
+    let start = c .before .before .before in
+    start .pre .1 .within _ (start .pre .2)
 
 inside-word-requires : tie.Need-inside-word-requires Inv-loop μ-loop
-inside-word-requires c κs = let s = c .before .before .before .before .args in omega (arith, enter-depth (s .term .now) (s .t1) (c .before .before .before .before .pre .0) (c .before .before .before .before .pre .1) (s .n) (c .before .before .before .before .pre .2))
+inside-word-requires c κs =
+    let start = c .before .before .before .before in
+    let s = start .args in omega (arith, enter-depth (s .term .now) (s .t1) (start .pre .0) (start .pre .1) (s .n) (start .pre .2))
 
 add-from : tie.Need-add-from Inv-loop μ-loop
-add-from c = omega (arith, c .before .before .before .before .before .pre .1 .within _ (c .before .before .before .before .before .pre .2), c .before .before .before .before .before .pre .0 .short)
+add-from c =
+    let start = c .before .before .before .before .before in
+    omega (arith, start .pre .1 .within _ (start .pre .2), start .pre .0 .short)
 
 loop-holds : tie.Need-loop-holds Inv-loop μ-loop
 loop-holds c = (λ target e. e, refl)
 
 cast-self : tie.Need-cast-self Inv-loop μ-loop
 cast-self c =
-    let s = c .before .before .before .before .before .before .before .args in
-    let e = c .before .loop .inv .0 _ (entering-start (s .term .now) (s .t1) (c .before .before .before .before .before .before .before .pre .0) (c .before .before .before .before .before .before .before .pre .1) (s .n) (c .before .before .before .before .before .before .before .pre .2) (c .before .before .before .before .before .before .before .pre .3) _ (c .before .before .inside-word .ensures)) in
-    omega (arith, entering-from _ _ _ _ _ _ _ _ _ (c .before .before .before .before .before .before .before .pre .0) e (c .loop-test .taken), c .before .before .before .before .before .before .before .pre .0 .short)
+    let start = c .before .before .before .before .before .before .before .before in
+    let s = start .args in
+    let e = c .before .loop .inv .0 _ (entering-start (s .term .now) (s .t1) (start .pre .0) (start .pre .1) (s .n) (start .pre .2) (start .pre .3) _ (c .before .before .before .inside-word .ensures) _ (c .before .before .count-of .ensures)) in
+    omega (arith, entering-from _ _ _ _ _ _ _ _ _ (start .pre .0) e (c .loop-test .taken), start .pre .0 .short)
 
 mul-self : tie.Need-mul-self Inv-loop μ-loop
 mul-self c =
-    let s = c .before .before .before .before .before .before .before .args in
-    let e = c .before .loop .inv .0 _ (entering-start (s .term .now) (s .t1) (c .before .before .before .before .before .before .before .pre .0) (c .before .before .before .before .before .before .before .pre .1) (s .n) (c .before .before .before .before .before .before .before .pre .2) (c .before .before .before .before .before .before .before .pre .3) _ (c .before .before .inside-word .ensures)) in
-    omega (arith, entering-count _ _ _ _ _ _ _ _ _ (c .before .before .before .before .before .before .before .pre .0) e)
+    let start = c .before .before .before .before .before .before .before .before in
+    let s = start .args in
+    let e = c .before .loop .inv .0 _ (entering-start (s .term .now) (s .t1) (start .pre .0) (start .pre .1) (s .n) (start .pre .2) (start .pre .3) _ (c .before .before .before .inside-word .ensures) _ (c .before .before .count-of .ensures)) in
+    omega (arith, entering-count _ _ _ _ _ _ _ _ _ (start .pre .0) e)
 
 element-write-self-2 : tie.Need-element-write-self-2 Inv-loop μ-loop
 element-write-self-2 c =
-    let s = c .before .before .before .before .before .before .before .args in
-    let e = c .before .loop .inv .0 _ (entering-start (s .term .now) (s .t1) (c .before .before .before .before .before .before .before .pre .0) (c .before .before .before .before .before .before .before .pre .1) (s .n) (c .before .before .before .before .before .before .before .pre .2) (c .before .before .before .before .before .before .before .pre .3) _ (c .before .before .inside-word .ensures)) in
-    omega (arith, entering-count _ _ _ _ _ _ _ _ _ (c .before .before .before .before .before .before .before .pre .0) e, c .loop-test .taken, e .offsets-long)
+    let start = c .before .before .before .before .before .before .before .before in
+    let s = start .args in
+    let e = c .before .loop .inv .0 _ (entering-start (s .term .now) (s .t1) (start .pre .0) (start .pre .1) (s .n) (start .pre .2) (start .pre .3) _ (c .before .before .before .inside-word .ensures) _ (c .before .before .count-of .ensures)) in
+    omega (arith, entering-count _ _ _ _ _ _ _ _ _ (start .pre .0) e, c .loop-test .taken, e .offsets-long)
 
 cast-self-2 : tie.Need-cast-self-2 Inv-loop μ-loop
 cast-self-2 c =
-    let s = c .before .before .before .before .before .before .before .args in
-    let e = c .before .loop .inv .0 _ (entering-start (s .term .now) (s .t1) (c .before .before .before .before .before .before .before .pre .0) (c .before .before .before .before .before .before .before .pre .1) (s .n) (c .before .before .before .before .before .before .before .pre .2) (c .before .before .before .before .before .before .before .pre .3) _ (c .before .before .inside-word .ensures)) in
+    let start = c .before .before .before .before .before .before .before .before in
+    let s = start .args in
+    let e = c .before .loop .inv .0 _ (entering-start (s .term .now) (s .t1) (start .pre .0) (start .pre .1) (s .n) (start .pre .2) (start .pre .3) _ (c .before .before .before .inside-word .ensures) _ (c .before .before .count-of .ensures)) in
     omega (arith, e .deep)
 
 element-write-self-3 : tie.Need-element-write-self-3 Inv-loop μ-loop
 element-write-self-3 c =
-    let s = c .before .before .before .before .before .before .before .args in
-    let e = c .before .loop .inv .0 _ (entering-start (s .term .now) (s .t1) (c .before .before .before .before .before .before .before .pre .0) (c .before .before .before .before .before .before .before .pre .1) (s .n) (c .before .before .before .before .before .before .before .pre .2) (c .before .before .before .before .before .before .before .pre .3) _ (c .before .before .inside-word .ensures)) in
-    omega (arith, entering-count _ _ _ _ _ _ _ _ _ (c .before .before .before .before .before .before .before .pre .0) e, c .loop-test .taken, e .depths-long)
+    let start = c .before .before .before .before .before .before .before .before in
+    let s = start .args in
+    let e = c .before .loop .inv .0 _ (entering-start (s .term .now) (s .t1) (start .pre .0) (start .pre .1) (s .n) (start .pre .2) (start .pre .3) _ (c .before .before .before .inside-word .ensures) _ (c .before .before .count-of .ensures)) in
+    omega (arith, entering-count _ _ _ _ _ _ _ _ _ (start .pre .0) e, c .loop-test .taken, e .depths-long)
 
 element-write-self-4 : tie.Need-element-write-self-4 Inv-loop μ-loop
 element-write-self-4 c =
-    let s = c .before .before .before .before .before .before .before .args in
-    let e = c .before .loop .inv .0 _ (entering-start (s .term .now) (s .t1) (c .before .before .before .before .before .before .before .pre .0) (c .before .before .before .before .before .before .before .pre .1) (s .n) (c .before .before .before .before .before .before .before .pre .2) (c .before .before .before .before .before .before .before .pre .3) _ (c .before .before .inside-word .ensures)) in
-    omega (arith, entering-count _ _ _ _ _ _ _ _ _ (c .before .before .before .before .before .before .before .pre .0) e, c .loop-test .taken, e .entered-long)
+    let start = c .before .before .before .before .before .before .before .before in
+    let s = start .args in
+    let e = c .before .loop .inv .0 _ (entering-start (s .term .now) (s .t1) (start .pre .0) (start .pre .1) (s .n) (start .pre .2) (start .pre .3) _ (c .before .before .before .inside-word .ensures) _ (c .before .before .count-of .ensures)) in
+    omega (arith, entering-count _ _ _ _ _ _ _ _ _ (start .pre .0) e, c .loop-test .taken, e .entered-long)
 
 mul-part-end : tie.Need-mul-part-end Inv-loop μ-loop
 mul-part-end c =
-    let s = c .before .before .before .before .before .before .before .args in
-    let e = c .before .loop .inv .0 _ (entering-start (s .term .now) (s .t1) (c .before .before .before .before .before .before .before .pre .0) (c .before .before .before .before .before .before .before .pre .1) (s .n) (c .before .before .before .before .before .before .before .pre .2) (c .before .before .before .before .before .before .before .pre .3) _ (c .before .before .inside-word .ensures)) in
-    omega (arith, entering-from _ _ _ _ _ _ _ _ _ (c .before .before .before .before .before .before .before .pre .0) e (c .loop-test .taken))
+    let start = c .before .before .before .before .before .before .before .before in
+    let s = start .args in
+    let e = c .before .loop .inv .0 _ (entering-start (s .term .now) (s .t1) (start .pre .0) (start .pre .1) (s .n) (start .pre .2) (start .pre .3) _ (c .before .before .before .inside-word .ensures) _ (c .before .before .count-of .ensures)) in
+    omega (arith, entering-from _ _ _ _ _ _ _ _ _ (start .pre .0) e (c .loop-test .taken))
 
 sub-part-end : tie.Need-sub-part-end Inv-loop μ-loop
 sub-part-end c =
-    let s = c .before .before .before .before .before .before .before .args in
-    let e = c .before .loop .inv .0 _ (entering-start (s .term .now) (s .t1) (c .before .before .before .before .before .before .before .pre .0) (c .before .before .before .before .before .before .before .pre .1) (s .n) (c .before .before .before .before .before .before .before .pre .2) (c .before .before .before .before .before .before .before .pre .3) _ (c .before .before .inside-word .ensures)) in
-    omega (arith, entering-from _ _ _ _ _ _ _ _ _ (c .before .before .before .before .before .before .before .pre .0) e (c .loop-test .taken))
+    let start = c .before .before .before .before .before .before .before .before in
+    let s = start .args in
+    let e = c .before .loop .inv .0 _ (entering-start (s .term .now) (s .t1) (start .pre .0) (start .pre .1) (s .n) (start .pre .2) (start .pre .3) _ (c .before .before .before .inside-word .ensures) _ (c .before .before .count-of .ensures)) in
+    omega (arith, entering-from _ _ _ _ _ _ _ _ _ (start .pre .0) e (c .loop-test .taken))
 
 part-part-end-start : tie.Need-part-part-end-start Inv-loop μ-loop
 part-part-end-start c =
-    let s = c .before .before .before .before .before .before .before .args in
-    let e = c .before .loop .inv .0 _ (entering-start (s .term .now) (s .t1) (c .before .before .before .before .before .before .before .pre .0) (c .before .before .before .before .before .before .before .pre .1) (s .n) (c .before .before .before .before .before .before .before .pre .2) (c .before .before .before .before .before .before .before .pre .3) _ (c .before .before .inside-word .ensures)) in
-    omega (arith, entering-from _ _ _ _ _ _ _ _ _ (c .before .before .before .before .before .before .before .pre .0) e (c .loop-test .taken))
+    let start = c .before .before .before .before .before .before .before .before in
+    let s = start .args in
+    let e = c .before .loop .inv .0 _ (entering-start (s .term .now) (s .t1) (start .pre .0) (start .pre .1) (s .n) (start .pre .2) (start .pre .3) _ (c .before .before .before .inside-word .ensures) _ (c .before .before .count-of .ensures)) in
+    omega (arith, entering-from _ _ _ _ _ _ _ _ _ (start .pre .0) e (c .loop-test .taken))
 
 add-from-2 : tie.Need-add-from-2 Inv-loop μ-loop
 add-from-2 c =
-    let s = c .before .before .before .before .before .before .before .before .before .args in
-    let e = c .before .before .before .loop .inv .0 _ (entering-start (s .term .now) (s .t1) (c .before .before .before .before .before .before .before .before .before .pre .0) (c .before .before .before .before .before .before .before .before .before .pre .1) (s .n) (c .before .before .before .before .before .before .before .before .before .pre .2) (c .before .before .before .before .before .before .before .before .before .pre .3) _ (c .before .before .before .before .inside-word .ensures)) in
-    omega (arith, entering-past _ _ _ _ _ _ _ _ _ (c .before .before .before .before .before .before .before .before .before .pre .0) e (c .before .before .loop-test .taken), c .before .before .before .before .before .before .before .before .before .pre .0 .short, c .part-end .ensures ∙ ap partEnd (suffix (c .before .before .before .loop .from) (s .term .now)))
+    let start = c .before .before .before .before .before .before .before .before .before .before in
+    let turn = c .before .before .before in
+    let s = start .args in
+    let e = turn .loop .inv .0 _ (entering-start (s .term .now) (s .t1) (start .pre .0) (start .pre .1) (s .n) (start .pre .2) (start .pre .3) _ (c .before .before .before .before .before .inside-word .ensures) _ (c .before .before .before .before .count-of .ensures)) in
+    omega (arith, entering-past _ _ _ _ _ _ _ _ _ (start .pre .0) e (c .before .before .loop-test .taken), start .pre .0 .short, c .part-end .ensures ∙ ap partEnd (suffix (turn .loop .from) (s .term .now)))
 
 add-count : tie.Need-add-count Inv-loop μ-loop
 add-count c =
-    let s = c .before .before .before .before .before .before .before .before .before .args in
-    let e = c .before .before .before .loop .inv .0 _ (entering-start (s .term .now) (s .t1) (c .before .before .before .before .before .before .before .before .before .pre .0) (c .before .before .before .before .before .before .before .before .before .pre .1) (s .n) (c .before .before .before .before .before .before .before .before .before .pre .2) (c .before .before .before .before .before .before .before .before .before .pre .3) _ (c .before .before .before .before .inside-word .ensures)) in
-    omega (arith, entering-count _ _ _ _ _ _ _ _ _ (c .before .before .before .before .before .before .before .before .before .pre .0) e)
+    let start = c .before .before .before .before .before .before .before .before .before .before in
+    let s = start .args in
+    let e = c .before .before .before .loop .inv .0 _ (entering-start (s .term .now) (s .t1) (start .pre .0) (start .pre .1) (s .n) (start .pre .2) (start .pre .3) _ (c .before .before .before .before .before .inside-word .ensures) _ (c .before .before .before .before .count-of .ensures)) in
+    omega (arith, entering-count _ _ _ _ _ _ _ _ _ (start .pre .0) e)
 
 sub-more : tie.Need-sub-more Inv-loop μ-loop
 sub-more c = omega (arith, c .before .before .loop-test .taken)
@@ -105,14 +125,17 @@ loop-less c = omega (arith, c .before .before .loop-test .taken)
 
 loop-again : tie.Need-loop-again Inv-loop μ-loop
 loop-again c =
-    let s = c .before .before .before .before .before .before .before .before .before .args in
-    (λ target e. entering-more _ target _ _ _ _ _ _ _ (c .before .before .before .before .before .before .before .before .before .pre .0) (c .before .before .before .loop .inv .0 target e) (c .before .before .loop-test .taken) _ (c .part-end .ensures ∙ ap partEnd (suffix (c .before .before .before .loop .from) (s .term .now))), c .before .before .before .loop .inv .1)
+    let start = c .before .before .before .before .before .before .before .before .before .before in
+    let turn = c .before .before .before in
+    let s = start .args in
+    (λ target e. entering-more _ target _ _ _ _ _ _ _ (start .pre .0) (turn .loop .inv .0 target e) (c .before .before .loop-test .taken) _ (c .part-end .ensures ∙ ap partEnd (suffix (turn .loop .from) (s .term .now))), turn .loop .inv .1)
 
 returns : tie.Need-returns Inv-loop μ-loop
 returns c =
-    let s = c .before .before .before .before .before .before .before .args in
-    let e = c .before .loop .inv .0 _ (entering-start (s .term .now) (s .t1) (c .before .before .before .before .before .before .before .pre .0) (c .before .before .before .before .before .before .before .pre .1) (s .n) (c .before .before .before .before .before .before .before .pre .2) (c .before .before .before .before .before .before .before .pre .3) _ (c .before .before .inside-word .ensures)) in
-    entering-told (s .term .now) (s .t1) (c .before .before .before .before .before .before .before .pre .0) (c .before .before .before .before .before .before .before .pre .1) (s .n) (c .before .before .before .before .before .before .before .pre .2) _ _ _ _ _ _ _ e (c .loop-test .left) (s .to) _ (c .before .loop .inv .1)
+    let start = c .before .before .before .before .before .before .before .before in
+    let s = start .args in
+    let e = c .before .loop .inv .0 _ (entering-start (s .term .now) (s .t1) (start .pre .0) (start .pre .1) (s .n) (start .pre .2) (start .pre .3) _ (c .before .before .before .inside-word .ensures) _ (c .before .before .count-of .ensures)) in
+    entering-told (s .term .now) (s .t1) (start .pre .0) (start .pre .1) (s .n) (start .pre .2) _ _ _ _ _ _ _ e (c .loop-test .left) (s .to) _ (c .before .loop .inv .1)
 
 pub enter-spec : {M : Type 1} → statement M
 enter-spec =
@@ -130,6 +153,7 @@ enter-spec =
     inside-word-requires
     (λ c. omega arith)
     add-from
+    (λ c κs. search needs)
     loop-holds
     cast-self
     mul-self

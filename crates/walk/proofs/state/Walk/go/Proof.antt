@@ -12,7 +12,9 @@ returns-2 : tie.Need-returns-2
 returns-2 c = let s = c .before .before .before .before .args in go-out (s .tree .now) (s .self) _ (s .to) (omega (arith, c .before .before .if1 .left)) (c .before .if2 .taken) (c .stop2 .ensures)
 
 returns-3 : tie.Need-returns-3
-returns-3 c = let s = c .before .before .before .args in go-on (s .tree .now) (s .self) (s .to) (c .before .before .before .pre) (omega (arith, c .before .if1 .left)) (omega (arith, c .if2 .left))
+returns-3 c =
+    let start = c .before .before .before in
+    let s = start .args in go-on (s .tree .now) (s .self) (s .to) (start .pre) (omega (arith, c .before .if1 .left)) (omega (arith, c .if2 .left))
 
 pub go-spec : {M : Type 1} → statement M
 go-spec = tie.close (tie.spec (λ c κs. search needs) returns (λ c κs. search needs) returns-2 returns-3)

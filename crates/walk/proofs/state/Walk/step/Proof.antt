@@ -6,25 +6,39 @@ use Rattle.walk.proofs.state.Walk.step.Statement.{statement}
 use Rattle.walk.proofs.state.Walk.step.Tie as tie
 
 returns : tie.Need-returns
-returns c = let s = c .before .before .before .before .args in step-past (s .tree .now) (s .term .now) (s .self) (c .before .before .before .before .pre .1) (c .before .if1 .taken) _ (c .stop .ensures)
+returns c =
+    let start = c .before .before .before .before in
+    let s = start .args in step-past (s .tree .now) (s .term .now) (s .self) (start .pre .1) (c .before .if1 .taken) _ (c .stop .ensures)
 
 returns-2 : tie.Need-returns-2
-returns-2 c = let s = c .before .before .before .before .before .before .args in step-fail (s .tree .now) (s .term .now) (s .self) (c .before .before .before .before .before .before .pre .1) (omega (arith, c .before .before .before .if1 .left)) (c .before .if2 .taken) _ (c .stop2 .ensures)
+returns-2 c =
+    let start = c .before .before .before .before .before .before in
+    let s = start .args in step-fail (s .tree .now) (s .term .now) (s .self) (start .pre .1) (omega (arith, c .before .before .before .if1 .left)) (c .before .if2 .taken) _ (c .stop2 .ensures)
 
 returns-3 : tie.Need-returns-3
-returns-3 c = let s = c .before .before .before .before .before .before .before .args in step-leaf (s .tree .now) (s .term .now) (s .self) (c .before .before .before .before .before .before .before .pre .1) (omega (arith, c .before .before .before .before .if1 .left)) (c .before .if3 .taken) _ (c .leaf .ensures)
+returns-3 c =
+    let start = c .before .before .before .before .before .before .before in
+    let s = start .args in step-leaf (s .tree .now) (s .term .now) (s .self) (start .pre .1) (omega (arith, c .before .before .before .before .if1 .left)) (c .before .if3 .taken) _ (c .leaf .ensures)
 
 returns-4 : tie.Need-returns-4
-returns-4 c = let s = c .before .before .before .before .before .before .before .before .args in step-switch (s .tree .now) (s .term .now) (s .self) (c .before .before .before .before .before .before .before .before .pre .1) (omega (arith, c .before .before .before .before .before .if1 .left)) (c .before .if4 .taken) _ (c .switch .ensures)
+returns-4 c =
+    let start = c .before .before .before .before .before .before .before .before in
+    let s = start .args in step-switch (s .tree .now) (s .term .now) (s .self) (start .pre .1) (omega (arith, c .before .before .before .before .before .if1 .left)) (c .before .if4 .taken) _ (c .switch .ensures)
 
 returns-5 : tie.Need-returns-5
-returns-5 c = let s = c .before .before .before .before .before .before .before .before .before .args in step-closed (s .tree .now) (s .term .now) (s .self) (c .before .before .before .before .before .before .before .before .before .pre .1) (omega (arith, c .before .before .before .before .before .before .if1 .left)) (c .before .if5 .taken) _ (c .test-closed .ensures)
+returns-5 c =
+    let start = c .before .before .before .before .before .before .before .before .before in
+    let s = start .args in step-closed (s .tree .now) (s .term .now) (s .self) (start .pre .1) (omega (arith, c .before .before .before .before .before .before .if1 .left)) (c .before .if5 .taken) _ (c .test-closed .ensures)
 
 returns-6 : tie.Need-returns-6
-returns-6 c = let s = c .before .before .before .before .before .before .before .before .before .before .args in step-same (s .tree .now) (s .term .now) (s .self) (c .before .before .before .before .before .before .before .before .before .before .pre .1) (omega (arith, c .before .before .before .before .before .before .before .if1 .left)) (c .before .if6 .taken) _ (c .test-same .ensures)
+returns-6 c =
+    let start = c .before .before .before .before .before .before .before .before .before .before in
+    let s = start .args in step-same (s .tree .now) (s .term .now) (s .self) (start .pre .1) (omega (arith, c .before .before .before .before .before .before .before .if1 .left)) (c .before .if6 .taken) _ (c .test-same .ensures)
 
 returns-7 : tie.Need-returns-7
-returns-7 c = let s = c .before .before .before .before .before .before .before .before .before .before .args in step-other (s .tree .now) (s .term .now) (s .self) (c .before .before .before .before .before .before .before .before .before .before .pre .1) (omega (arith, c .before .before .before .before .before .before .before .if1 .left)) (c .before .before .before .before .before .if2 .left) (c .before .before .before .before .if3 .left) (c .before .before .before .if4 .left) (c .before .before .if5 .left) (c .before .if6 .left) _ (c .stop3 .ensures)
+returns-7 c =
+    let start = c .before .before .before .before .before .before .before .before .before .before in
+    let s = start .args in step-other (s .tree .now) (s .term .now) (s .self) (start .pre .1) (omega (arith, c .before .before .before .before .before .before .before .if1 .left)) (c .before .before .before .before .before .if2 .left) (c .before .before .before .before .if3 .left) (c .before .before .before .if4 .left) (c .before .before .if5 .left) (c .before .if6 .left) _ (c .stop3 .ensures)
 
 pub step-spec : {M : Type 1} → statement M
 step-spec =

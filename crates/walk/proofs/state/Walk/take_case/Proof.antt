@@ -6,16 +6,24 @@ use Rattle.walk.proofs.state.Walk.take_case.Statement.{statement}
 use Rattle.walk.proofs.state.Walk.take_case.Tie as tie
 
 returns : tie.Need-returns
-returns c = let s = c .before .before .before .before .before .args in case-entered (s .tree .now) (s .term .now) (s .t1) (c .before .before .before .before .before .pre .0) (c .before .before .before .before .before .pre .1) (s .n) (c .before .before .before .before .before .pre .2) (s .to) (c .before .if1 .taken) _ (c .stop .ensures)
+returns c =
+    let start = c .before .before .before .before .before in
+    let s = start .args in case-entered (s .tree .now) (s .term .now) (s .t1) (start .pre .0) (start .pre .1) (s .n) (start .pre .2) (s .to) (c .before .if1 .taken) _ (c .stop .ensures)
 
 returns-2 : tie.Need-returns-2
-returns-2 c = let s = c .before .before .before .before .before .before .args in case-back (s .tree .now) (s .term .now) (s .t1) (c .before .before .before .before .before .before .pre .0) (c .before .before .before .before .before .before .pre .1) (s .n) (c .before .before .before .before .before .before .pre .2) (s .to) (c .before .before .if1 .left) (c .before .if2 .taken) _ (c .stop2 .ensures)
+returns-2 c =
+    let start = c .before .before .before .before .before .before in
+    let s = start .args in case-back (s .tree .now) (s .term .now) (s .t1) (start .pre .0) (start .pre .1) (s .n) (start .pre .2) (s .to) (c .before .before .if1 .left) (c .before .if2 .taken) _ (c .stop2 .ensures)
 
 returns-3 : tie.Need-returns-3
-returns-3 c = let s = c .before .before .before .before .before .before .before .args in case-out (s .tree .now) (s .term .now) (s .t1) (c .before .before .before .before .before .before .before .pre .0) (c .before .before .before .before .before .before .before .pre .1) (s .n) (c .before .before .before .before .before .before .before .pre .2) (s .to) (c .before .before .before .if1 .left) (omega (arith, c .before .before .if2 .left)) (c .before .if3 .taken) _ (c .stop3 .ensures)
+returns-3 c =
+    let start = c .before .before .before .before .before .before .before in
+    let s = start .args in case-out (s .tree .now) (s .term .now) (s .t1) (start .pre .0) (start .pre .1) (s .n) (start .pre .2) (s .to) (c .before .before .before .if1 .left) (omega (arith, c .before .before .if2 .left)) (c .before .if3 .taken) _ (c .stop3 .ensures)
 
 returns-4 : tie.Need-returns-4
-returns-4 c = let s = c .before .before .before .before .before .before .before .args in case-in (s .tree .now) (s .term .now) (s .t1) (c .before .before .before .before .before .before .before .pre .0) (c .before .before .before .before .before .before .before .pre .1) (s .n) (c .before .before .before .before .before .before .before .pre .2) (s .to) (c .before .before .before .if1 .left) (c .before .before .before .before .before .before .before .pre .3) (omega (arith, c .before .before .if2 .left)) (omega (arith, c .before .if3 .left)) _ (c .enter .ensures)
+returns-4 c =
+    let start = c .before .before .before .before .before .before .before in
+    let s = start .args in case-in (s .tree .now) (s .term .now) (s .t1) (start .pre .0) (start .pre .1) (s .n) (start .pre .2) (s .to) (c .before .before .before .if1 .left) (start .pre .3) (omega (arith, c .before .before .if2 .left)) (omega (arith, c .before .if3 .left)) _ (c .enter .ensures)
 
 pub take-case-spec : {M : Type 1} → statement M
 take-case-spec =

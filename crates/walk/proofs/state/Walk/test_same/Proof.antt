@@ -10,7 +10,9 @@ use Rattle.walk.proofs.state.Walk.test_same.Statement.{statement}
 use Rattle.walk.proofs.state.Walk.test_same.Tie as tie
 
 returns : tie.Need-returns
-returns c = let s = c .before .before .before .before .args in same-cut (s .tree .now) (s .term .now) (s .t1) (c .before .before .before .before .pre .0) (c .before .before .before .before .pre .1) (c .before .before .before .before .pre .2) (c .before .if1 .taken) _ (c .stop .ensures)
+returns c =
+    let start = c .before .before .before .before in
+    let s = start .args in same-cut (s .tree .now) (s .term .now) (s .t1) (start .pre .0) (start .pre .1) (start .pre .2) (c .before .if1 .taken) _ (c .stop .ensures)
 
 cast-n : tie.Need-cast-n
 cast-n c = let s = c .before .before .before .before .args in omega (arith, c .shared-slice-known3 .given (s .t1 .at + 1))
@@ -22,13 +24,19 @@ cast-k : tie.Need-cast-k
 cast-k c = let s = c .before .before .before .before .before .before .args in omega (arith, c .shared-slice-known5 .given (s .t1 .at + 3))
 
 returns-2 : tie.Need-returns-2
-returns-2 c = let s = c .before .before .before .before .before .before .before .before .args in same-uncovered (s .tree .now) (s .term .now) (s .t1) (c .before .before .before .before .before .before .before .before .pre .0) (c .before .before .before .before .before .before .before .before .pre .1) (omega (arith, c .before .before .before .before .before .if1 .left)) (c .before .if2 .taken) _ (c .stop2 .ensures)
+returns-2 c =
+    let start = c .before .before .before .before .before .before .before .before in
+    let s = start .args in same-uncovered (s .tree .now) (s .term .now) (s .t1) (start .pre .0) (start .pre .1) (omega (arith, c .before .before .before .before .before .if1 .left)) (c .before .if2 .taken) _ (c .stop2 .ensures)
 
 returns-3 : tie.Need-returns-3
-returns-3 c = let s = c .before .before .before .before .before .before .before .before .before .args in same-next-uncovered (s .tree .now) (s .term .now) (s .t1) (c .before .before .before .before .before .before .before .before .before .pre .0) (c .before .before .before .before .before .before .before .before .before .pre .1) (omega (arith, c .before .before .before .before .before .before .if1 .left)) (omega (arith, c .before .before .if2 .left)) (c .before .if3 .taken) _ (c .stop3 .ensures)
+returns-3 c =
+    let start = c .before .before .before .before .before .before .before .before .before in
+    let s = start .args in same-next-uncovered (s .tree .now) (s .term .now) (s .t1) (start .pre .0) (start .pre .1) (omega (arith, c .before .before .before .before .before .before .if1 .left)) (omega (arith, c .before .before .if2 .left)) (c .before .if3 .taken) _ (c .stop3 .ensures)
 
 mul-same-taken : tie.Need-mul-same-taken
-mul-same-taken c = omega (arith, c .before .before .before .before .before .before .before .before .before .before .pre .1 .within _ (c .before .before .before .if2 .left), c .before .before .before .before .before .before .before .before .before .before .pre .0 .short)
+mul-same-taken c =
+    let start = c .before .before .before .before .before .before .before .before .before .before in
+    omega (arith, start .pre .1 .within _ (c .before .before .before .if2 .left), start .pre .0 .short)
 
 sub-same-taken : tie.Need-sub-same-taken
 sub-same-taken c = omega (arith, c .before .before .before .before .before .before .before .before .before .before .pre .1 .within _ (c .before .before .before .if2 .left))
@@ -40,7 +48,9 @@ cast-same-taken : tie.Need-cast-same-taken
 cast-same-taken c = omega (arith, c .before .before .before .before .before .before .before .before .before .before .before .before .pre .1 .low _ (c .before .before .before .before .before .if2 .left))
 
 mul-same-taken-2 : tie.Need-mul-same-taken-2
-mul-same-taken-2 c = omega (arith, c .before .before .before .before .before .before .before .before .before .before .before .before .pre .1 .within _ (c .before .before .before .before .if3 .left), c .before .before .before .before .before .before .before .before .before .before .before .before .pre .0 .short)
+mul-same-taken-2 c =
+    let start = c .before .before .before .before .before .before .before .before .before .before .before .before in
+    omega (arith, start .pre .1 .within _ (c .before .before .before .before .if3 .left), start .pre .0 .short)
 
 sub-same-taken-2 : tie.Need-sub-same-taken-2
 sub-same-taken-2 c = omega (arith, c .before .before .before .before .before .before .before .before .before .before .before .before .pre .1 .within _ (c .before .before .before .before .if3 .left))
@@ -53,15 +63,15 @@ cast-same-taken-2 c = omega (arith, c .before .before .before .before .before .b
 
 returns-4 : tie.Need-returns-4
 returns-4 c =
-    let s = c .before .before .before .before .before .before .before .before .before .before .before .before .before .before .before .before .before .before .before .args in
-    same-goes (s .tree .now) (s .term .now) (s .t1) (c .before .before .before .before .before .before .before .before .before .before .before .before .before .before .before .before .before .before .before .pre .0) (c .before .before .before .before .before .before .before .before .before .before .before .before .before .before .before .before .before .before .before .pre .1) (omega (arith, c .before .before .before .before .before .before .before .before .before .before .before .before .before .before .before .before .if1 .left)) (omega (arith, c .before .before .before .before .before .before .before .before .before .before .before .before .if2 .left)) (omega (arith, c .before .before .before .before .before .before .before .before .before .before .before .if3 .left)) _
-    (sym (c .before .before .to .given .1) ∙ rw (suffix _ (s .term .now), suffix (getD (s .t1 .offsets) (getD (s .tree .now) (s .t1 .at + 2) 0) 0) (s .term .now)) at (c .before .before .before .before .same-taken .ensures)) _ (c .go .ensures)
+    let start = c .before .before .before .before .before .before .before .before .before .before .before .before .before .before .before .before .before .before .before in
+    let s = start .args in
+    same-goes (s .tree .now) (s .term .now) (s .t1) (start .pre .0) (start .pre .1) (omega (arith, c .before .before .before .before .before .before .before .before .before .before .before .before .before .before .before .before .if1 .left)) (omega (arith, c .before .before .before .before .before .before .before .before .before .before .before .before .if2 .left)) (omega (arith, c .before .before .before .before .before .before .before .before .before .before .before .if3 .left)) _ _ (suffix _ (s .term .now)) (suffix _ (s .term .now)) _ (c .before .before .before .before .same-taken .ensures) _ (c .before .before .to .given .1) _ (c .go .ensures)
 
 returns-5 : tie.Need-returns-5
 returns-5 c =
-    let s = c .before .before .before .before .before .before .before .before .before .before .before .before .before .before .before .before .before .before .args in
-    same-damaged (s .tree .now) (s .term .now) (s .t1) (c .before .before .before .before .before .before .before .before .before .before .before .before .before .before .before .before .before .before .pre .0) (c .before .before .before .before .before .before .before .before .before .before .before .before .before .before .before .before .before .before .pre .1) (omega (arith, c .before .before .before .before .before .before .before .before .before .before .before .before .before .before .before .if1 .left)) (omega (arith, c .before .before .before .before .before .before .before .before .before .before .before .if2 .left)) (omega (arith, c .before .before .before .before .before .before .before .before .before .before .if3 .left))
-    (sym (c .before .enum-told .given .1) ∙ rw (suffix _ (s .term .now), suffix (getD (s .t1 .offsets) (getD (s .tree .now) (s .t1 .at + 2) 0) 0) (s .term .now)) at (c .before .before .before .same-taken .ensures)) _ (c .stop4 .ensures)
+    let start = c .before .before .before .before .before .before .before .before .before .before .before .before .before .before .before .before .before .before in
+    let s = start .args in
+    same-damaged (s .tree .now) (s .term .now) (s .t1) (start .pre .0) (start .pre .1) (omega (arith, c .before .before .before .before .before .before .before .before .before .before .before .before .before .before .before .if1 .left)) (omega (arith, c .before .before .before .before .before .before .before .before .before .before .before .if2 .left)) (omega (arith, c .before .before .before .before .before .before .before .before .before .before .if3 .left)) _ _ (suffix _ (s .term .now)) (suffix _ (s .term .now)) _ (c .before .before .before .same-taken .ensures) (c .before .enum-told .given .1) _ (c .stop4 .ensures)
 
 pub test-same-spec : {M : Type 1} → statement M
 test-same-spec =

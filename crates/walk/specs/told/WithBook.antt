@@ -10,7 +10,7 @@ use Rattle.term.specs.Row.{Row}
 use Rattle.fit.specs.Match.{bodyList, lengthList}
 use Rattle.tree.specs.Tree.{LeafVariable, countsOf}
 use Rattle.walk.specs.Walk.{Walked, NoneFits, RuleFits, DamagedAt, variablesIn, isWord, walk, countsFit, bookFits}
-use Rattle.walk.specs.State.{partFrom}
+use Rattle.walk.specs.told.State.{partFrom}
 use Rattle.walk.specs.declared.with_book.BookMatch.{BookMatch}
 use Rattle.walk.specs.declared.with_book.BookMatch.the-variants.{None, Rule, Damaged}
 

@@ -7,17 +7,17 @@ use mathlib.Core.Option.{Option, none, some}
 use lib.ListN.{length, getD, drop, replicate}
 use Rattle.term.specs.Word.{pick}
 use Rattle.term.specs.Row.{Row, words, nesting}
-use Rattle.term.specs.Walk.{Stands}
+use Rattle.term.specs.told.Walk.{Stands}
 use Rattle.term.specs.Part.{part, bodyOf}
 use lib.Dec.{leb}
 use Rattle.term.specs.declared.answer.Answer.the-variants.{Done, Short}
-use Rattle.term.specs.declared.renumber.Step.{Step}
-use Rattle.term.specs.declared.renumber.Step.the-variants as step
+use Rattle.term.specs.declared.renumber.Passed.{Passed}
+use Rattle.term.specs.declared.renumber.Passed.the-variants as step
 use Rattle.fit.specs.Match.{bodyList, fitted, matchAnswer, matchWords, matchLengths}
 use Rattle.tree.specs.Tree.{LeafVariable, countsOf}
-use Rattle.tree.specs.Find.{PartAt, rootPart, enterPart, bodyOr, leafBody}
-use Rattle.tree.proofs.Laws.{total}
-use Rattle.walk.specs.Walk.{Walked, NoneFits, RuleFits, DamagedAt, Next, Ends, Goes, unless, goTo, variablesIn, soundVariables, caseNext, switchNode, closedNode, sameNode, leafNode, nextAt, walkFrom}
+use Rattle.tree.specs.Find.{PartAt, rootPart, enterPart, bodyOr, leafBody, total}
+use Rattle.walk.specs.Walk.{Walked, NoneFits, RuleFits, DamagedAt, Next, Ends, Goes, unless, goTo, variablesIn, soundVariables, caseNext, switchNode, closedNode, sameNode, leafNode, nextAt, walkFrom, noBook}
+use Rattle.walk.specs.ByTree.{walkedMatch, walkedRule, MatchTreeOutcome, ruleGives}
 use Rattle.walk.specs.declared.state.Walk.{Walk}
 
 abbrev pub stoppedAs : Walk → ℕ → Walk
@@ -139,8 +139,15 @@ Standing table term walked s = Holds term s × Stood table term walked s (s .sta
 unfoldable pub WalkTold : List ℕ → List ℕ → Walk → Type 0
 WalkTold table term r = Standing table term (λ fits. walkFrom fits table 0 (rootPart (partFrom term 0))) r × (r .stands ≡ 0 → ⊥)
 
+-- the same where no book is given, and what it gives in a room for bodies
+abbrev pub walkedHere : List ℕ → List ℕ → Walked
+walkedHere table term = walkFrom noBook table 0 (rootPart (partFrom term 0))
+
+unfoldable pub walkedGives : ℕ → Walked → MatchTreeOutcome
+walkedGives room w = ruleGives room (walkedMatch w) (walkedRule room w)
+
 -- ---- the body of a part in a lent slice, zeros after it; Stuck where there is no room for it
-unfoldable pub PartWritten : ℕ → List ℕ → List ℕ → List ℕ → List ℕ → Step → Type 0
+unfoldable pub PartWritten : ℕ → List ℕ → List ℕ → List ℕ → List ℕ → Passed → Type 0
 PartWritten d ys ws out done (step.Done n) =
     (b : Row) × (bodyOf d ys ws ≡ some b) × (n ≡ length (words b)) × (n ≤ length out) × (n ≤ length ws) × (done ≡ words b ++ replicate (length out - n) 0)
 PartWritten d ys ws out done step.Stuck = (b : Row) → bodyOf d ys ws ≡ some b → length out < length (words b)
