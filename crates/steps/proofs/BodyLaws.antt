@@ -4,24 +4,24 @@ use mathlib.Core.List.{List, _++_}
 use Prim.Native.Nat.{ℕ, suc, _+_, _-_, _≤_, _<_}
 use native.Mathlib.Omega.{arith}
 use lib.ListN.{length, length-append}
-use Rattle.term.specs.declared.renumber.Step.{Step}
-use Rattle.term.specs.declared.renumber.Step.the-variants as step
+use Rattle.term.specs.declared.renumber.Passed.{Passed}
+use Rattle.term.specs.declared.renumber.Passed.the-variants as step
 use Rattle.term.specs.Word
-use Rattle.term.specs.Word.{Head, symbol, abstraction, variable, pattern, kind, word, InTable, kindOf, identOf}
+use Rattle.term.specs.Word.{Head, symbol, abstraction, variable, pattern, rank, word, InTable, kindOf, identOf}
 use Rattle.term.specs.Row.{Row, nothing, node, width, words, _⧺_}
 use Rattle.term.specs.Renumber.{inside}
-use Rattle.term.proofs.Laws.{words-nothing, words-join, width-nothing, width-node, join-nothing, kind-word, ident-word, kind-symbol, kind-abstraction, kind-variable, kind-pattern, ident-variable}
+use Rattle.term.proofs.Laws.{words-nothing, words-join, width-nothing, width-node, join-nothing, kind-word, ident-word, kind-symbol, kind-abstraction, kind-variable, kind-pattern, rank-pattern, ident-variable}
 use Rattle.fit.specs.Constraint.{tree}
-use Rattle.fit.specs.Told.{TermStands}
-use Rattle.fit.specs.BuildWalk.{RowBuilt}
+use Rattle.fit.specs.told.Told.{TermStands}
+use Rattle.fit.specs.told.BuildWalk.{RowBuilt}
 use Rattle.fit.proofs.Laws.{row-none, row-first-over, row-then, TermFirst, term-first}
 use Rattle.steps.specs.declared.right.Both.{Both}
 use Rattle.steps.specs.declared.right.Both.the-variants.{Done, Stuck}
 use Rattle.steps.specs.declared.under.Under.{Under}
 use Rattle.steps.specs.Right.{single, replaced}
-use Rattle.steps.specs.Told.{RightRow, writtenIn, deeper, variableIn}
-use Rattle.steps.specs.Under.{Around, deeperBy, idsIn}
-use Rattle.steps.specs.RightWalk.{childAt, RightTold, VariableTold, BothWritten, BodyTold}
+use Rattle.steps.specs.told.Told.{RightRow, writtenIn, deeper, variableIn}
+use Rattle.steps.specs.told.Under.{Around, deeperBy, idsIn}
+use Rattle.steps.specs.told.RightWalk.{childAt, RightTold, VariableTold, BothWritten, BodyTold}
 use Rattle.steps.proofs.Replaced.{tree-before, none-wide, replaced-nothing, replaced-node, replaced-join}
 use Rattle.steps.proofs.Writing.{IdCase, own, inner, outside, id-case}
 use Rattle.steps.proofs.Shaped.{width-tree, width-replaced}
@@ -67,14 +67,14 @@ module _ (m : ℕ → ℕ → Row) (e : ℕ) where
       alone (variable i) kids (m e i) (replaced-node m e (variable i) kids nothing) ∙ ap (m e) (sym x)
   variable-tree (pattern x c) kids t q = absurd (omega (arith, q, kind-word (pattern x c) t, kind-pattern x c))
 
-  pub node-tree : (h : Head) (kids : Row) → InTable h → kind h ≤ 2 → (kindOf (word h) ≡ 2 → ⊥) → replaced m e (node h kids nothing) ≡ node h (replaced m (inside h e) kids) nothing
+  pub node-tree : (h : Head) (kids : Row) → InTable h → rank h ≤ 2 → (kindOf (word h) ≡ 2 → ⊥) → replaced m e (node h kids nothing) ≡ node h (replaced m (inside h e) kids) nothing
   node-tree (symbol i c) kids t l q = alone (symbol i c) kids (node (symbol i c) (replaced m (inside (symbol i c) e) kids) nothing) (replaced-node m e (symbol i c) kids nothing)
   node-tree abstraction kids t l q = alone abstraction kids (node abstraction (replaced m (inside abstraction e) kids) nothing) (replaced-node m e abstraction kids nothing)
   node-tree (variable i) kids t l q = absurd (q (kind-word (variable i) t ∙ kind-variable i))
-  node-tree (pattern x c) kids t l q = absurd (omega (arith, l, kind-pattern x c))
+  node-tree (pattern x c) kids t l q = absurd (omega (arith, l, rank-pattern x c))
 
 -- ---- a variable of a body
-module _ (u : Under) (e count levels i : ℕ) (right : List ℕ) (at : ℕ) (bodies lengths out : List ℕ) (to : ℕ) (done : List ℕ) (r : Step) where
+module _ (u : Under) (e count levels i : ℕ) (right : List ℕ) (at : ℕ) (bodies lengths out : List ℕ) (to : ℕ) (done : List ℕ) (r : Passed) where
   pub variable-own : i ≤ e → RowBuilt levels out to done (single i) r → VariableTold u e count levels i right at bodies lengths out to done r
   unfolding VariableTold
   variable-own h wrote vars k b kids after s g l = rw (body-own-in b (u .depth) (idsIn u) kids e i h) wrote

@@ -4,23 +4,23 @@ use mathlib.Core.List.{List, _++_}
 use Prim.Native.Nat.{ℕ, _+_, _-_, _≤_, _<_}
 use native.Mathlib.Omega.{arith}
 use lib.ListN.{length, getD, set, drop, take-append-drop}
-use Rattle.term.specs.declared.renumber.Step.the-variants as step
+use Rattle.term.specs.declared.renumber.Passed.the-variants as step
 use Rattle.term.specs.Word
-use Rattle.term.specs.Word.{Head, symbol, abstraction, variable, pattern, kind, word, InTable, kindOf, countOf, identOf}
+use Rattle.term.specs.Word.{Head, symbol, abstraction, variable, pattern, rank, word, InTable, kindOf, countOf, identOf}
 use Rattle.term.specs.Row.{Row, nothing, node, width, words}
 use Rattle.term.specs.Renumber.{inside}
-use Rattle.term.specs.Walk.{insideWord}
-use Rattle.term.proofs.Laws.{words-nothing, width-nothing, width-node, nesting-node, kinds-node, formed-node, kind-word, count-word, kind-symbol, kind-abstraction, kind-pattern, count-variable, inside-is}
-use Rattle.fit.specs.Told.{TermStands}
+use Rattle.term.specs.told.Walk.{insideWord}
+use Rattle.term.proofs.Laws.{words-nothing, width-nothing, width-node, nesting-node, ranks-node, formed-node, kind-word, count-word, kind-symbol, kind-abstraction, kind-pattern, count-variable, inside-is}
+use Rattle.fit.specs.told.Told.{TermStands}
 use Rattle.fit.specs.Build.{startOf}
 use Rattle.fit.proofs.Laws.{row-full, row-node, words-tree, head-at, term-first, words-at-are}
 use Rattle.steps.specs.declared.right.Both.{Both}
 use Rattle.steps.specs.declared.right.Both.the-variants.{Done, Stuck}
 use Rattle.steps.specs.declared.under.Under.{Under}
 use Rattle.steps.specs.Right.{replaced}
-use Rattle.steps.specs.Told.{RightRow, variableIn}
-use Rattle.steps.specs.Under.{idsIn}
-use Rattle.steps.specs.RightWalk.{BodiesStand, PatternTold, VariableTold, BothWritten, BodyTold}
+use Rattle.steps.specs.told.Told.{RightRow, variableIn}
+use Rattle.steps.specs.told.Under.{lowered, idsIn}
+use Rattle.steps.specs.told.RightWalk.{BodiesStand, PatternTold, VariableTold, BothWritten, BodyTold}
 use Rattle.steps.proofs.Replaced.{none-wide}
 use Rattle.steps.proofs.Depths.{length-ids}
 use Rattle.steps.proofs.BodyLaws.{width-body, variable-tree, node-tree}
@@ -32,7 +32,7 @@ module _ (bodies : List ℕ) (from : ℕ) where
     is : q ≡ node head kids nothing
     table : InTable head
     full : width kids ≡ Word.count head
-    low : kind head ≤ 2
+    low : rank head ≤ 2
     word-is : word head ≡ getD bodies from 0
     below : TermStands (countOf (getD bodies from 0)) bodies (from + 1) kids beyond
     long : length (words q) ≡ 1 + length (words kids)
@@ -41,7 +41,7 @@ module _ (bodies : List ℕ) (from : ℕ) where
   one-node h kids beyond s =
       let a = head-at from bodies h kids beyond (term-first 1 bodies from (λ z. omega (arith, z)) (node h kids nothing) beyond s .within) (s .same) in
       let f = formed-node h kids nothing (s .formed) in
-      let n = kinds-node h kids nothing in
+      let n = ranks-node h kids nothing in
       record {
         head = h;
         kids = kids;
@@ -128,7 +128,7 @@ module _ (u : Under) (e count levels : ℕ) (right : List ℕ) (at : ℕ) (bodie
             (row-full levels out to (x .head) (replaced (variableIn b (u .depth) (idsIn u) kids) (inside (x .head) e) (x .kids)) done h)
 
     pub body-inner : 1 ≤ levels → to < 4096 → (done : List ℕ) (r : Both)
-        → BodyTold u (insideWord (getD bodies from 0) e) count (levels - 1) (countOf (getD bodies from 0)) right at bodies (from + 1) lengths (set out to (getD bodies from 0)) (to + 1) done r
+        → BodyTold (lowered u) (insideWord (getD bodies from 0) e) count (levels - 1) (countOf (getD bodies from 0)) right at bodies (from + 1) lengths (set out to (getD bodies from 0)) (to + 1) done r
         → BodyTold u e count levels 1 right at bodies from lengths out to done r
     unfolding BodyTold
     body-inner one room done r told vars k b kids after q beyond s g t l = shown (one-body bodies from q beyond t)

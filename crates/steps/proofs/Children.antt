@@ -11,7 +11,7 @@ use Rattle.term.specs.Part.{past}
 use Rattle.term.proofs.Laws.{width-nothing, width-node, words-join, join-nothing-left, join-node, formed-nothing, node-formed, past-words}
 use Rattle.fit.specs.Constraint.{tree}
 use Rattle.fit.proofs.Laws.{tree-nothing, tree-first, tree-later}
-use Rattle.steps.specs.Told.{RightRow}
+use Rattle.steps.specs.told.Told.{RightRow}
 use Rattle.steps.proofs.Replaced.{tree-before}
 
 module _ (vars : ℕ) (k : ℕ → ℕ) where

@@ -4,13 +4,15 @@ use mathlib.Core.List.{List, [], _∷_}
 use Prim.Native.Nat.{ℕ, zero, suc}
 use Rattle.term.specs.declared.answer.Answer.{Answer}
 use Rattle.term.specs.declared.answer.Answer.the-variants.{Done, NoFit, BudgetUsed, BadTerm, BadBook, Short, Damaged, Over}
-use Rattle.term.specs.Word.{word, kind, count, ident, headOf, headWith}
-use Rattle.term.specs.Row.{Row, words, width, kinds, nesting, read, firsts, others, _⧺_}
+use Rattle.term.specs.Answer.{answered}
+use Rattle.term.specs.Word.{word, kind, rank, count, ident, headOf, headWith}
+use Rattle.term.specs.Row.{Row, words, width, ranks, nesting, read, firsts, others, _⧺_}
 use Rattle.term.specs.Check.{check, scan, settle, mayStand}
 use Rattle.term.specs.Renumber.{position, listed, goodList, idBody, idTerm, inside, renumberHead, renumber, namedHead, named, closed, toBody, toTerm}
 use Rattle.term.specs.Part.{sameWords, padded}
 use Rattle.book.specs.Rule.{idsOf, leftShape, rootSymbol, rightShape, counted, oneCount, allOccur, noOther, goodLeft, goodRight, goodRule}
 use Rattle.book.specs.Book.{ruleOf, judge, checkBook, nthRule, ruleAt}
+use Rattle.book.specs.Accept.{accept}
 use Rattle.book.specs.Marked.{s, l, v, m, bookA}
 use Rattle.fit.specs.Left.{leftOf}
 use Rattle.fit.specs.Constraint.{tree, childrenOf, isHead, occurrences, closeds, firstOf, sames, constraints, bodyHere}
@@ -22,14 +24,13 @@ use Rattle.tree.specs.Rows.{sub, below, subsUnder, subAt, headAt, lowestOpen, i
 use Rattle.tree.specs.Compile as compiler
 use Rattle.tree.specs.Compile.{without, heads, caseRows, defaultRows, entering, holding, rowsWithout, testOf, variablesFrom, leafOf, casesOf, nodeOf, compileBy, compile, bookRows, bookTree}
 use Rattle.tree.specs.Find.{partOf, markedPart, childParts, insideOf, enterPart, bodyFor, leafBody}
-use Rattle.tree.specs.Layout.{variableWords, caseCount, long, longCases, caseHeads, layout, layoutCases}
-use Rattle.tree.specs.Compiled.{treeWords}
+use Rattle.tree.specs.Layout.{variableWords, caseCount, long, longCases, caseHeads, layout, layoutCases, treeWords}
 use Rattle.walk.specs.Walk.{goTo, variablesIn, soundVariable, soundVariables, leafNode, isWord, caseOf, switchNode, closedNode, sameNode, nodeAt, nextAt, walkBy, walkFrom, walk, countsFit, bookFits}
 use Rattle.steps.specs.Right.{shifted, replaced, inBody, write}
 use Rattle.steps.specs.Rewrite.{rewritten, rewriteRoot, rootAnswer, rootWords}
 use Rattle.steps.specs.Offset.{partAt, spliced}
 use Rattle.steps.specs.Step.{seekRule, lowestOffset, wholeWithin, step}
-use Rattle.steps.specs.Simplify.{simplifyBy, simplify, simplifyAnswer, simplifyWords, simplifySteps}
+use Rattle.steps.specs.Simplify.{simplifyBy, simplify, simplifyAnswer, simplifyWords, simplifySteps, SimplifyOutcome, simplifyCame, simplifyGives}
 
 -- ---- right sides
 abbrev one-body : List ℕ → ℕ → Row
@@ -53,21 +54,15 @@ right-sides :
     × (wrote (s 9 2 ∷ v 1 ∷ v 2 ∷ []) (m 0 1 ∷ s 7 0 ∷ []) ≡ s 9 2 ∷ s 7 0 ∷ v 1 ∷ [])
     -- a variable in the child of a variable
     × (wrote (s 9 2 ∷ v 1 ∷ v 2 ∷ []) (m 0 1 ∷ m 0 1 ∷ s 7 0 ∷ []) ≡ s 9 2 ∷ s 9 2 ∷ s 7 0 ∷ v 1 ∷ v 1 ∷ [])
-unfolding word kind count ident headOf headWith words width kinds nesting read firsts others _⧺_ check scan settle mayStand position listed goodList inside idBody idTerm renumberHead renumber namedHead named closed toBody toTerm sameWords padded idsOf leftShape rootSymbol rightShape counted oneCount allOccur noOther goodLeft goodRight goodRule ruleOf judge checkBook nthRule ruleAt leftOf tree childrenOf isHead bodyHere occurrences closeds firstOf sames constraints treeOf leftIn largest withinLimits limited buildAnswer buildWords countsOf placeNumbered numberIn childrenFrom marked enter sub below subsUnder subAt headAt lowestOpen isIn among sameConstraint has unstruck constraintsLeft wordsOf wordsLeft size without heads caseRows defaultRows entering holding rowsWithout testOf variablesFrom leafOf casesOf nodeOf compiler.step compileBy compile bookRows bookTree partOf markedPart childParts insideOf enterPart bodyFor leafBody variableWords caseCount long longCases caseHeads layout layoutCases treeWords goTo variablesIn soundVariable soundVariables leafNode isWord caseOf switchNode closedNode sameNode nodeAt nextAt walkBy walkFrom walk countsFit bookFits shifted replaced inBody write rewritten rewriteRoot partAt spliced seekRule lowestOffset wholeWithin step simplifyBy simplify simplifyAnswer simplifyWords simplifySteps s l v m
+unfolding word kind rank count ident headOf headWith words width ranks nesting read firsts others _⧺_ check scan settle mayStand position listed goodList inside idBody idTerm renumberHead renumber namedHead named closed toBody toTerm sameWords padded idsOf leftShape rootSymbol rightShape counted oneCount allOccur noOther goodLeft goodRight goodRule ruleOf judge checkBook accept nthRule ruleAt leftOf tree childrenOf isHead bodyHere occurrences closeds firstOf sames constraints treeOf leftIn largest withinLimits limited buildAnswer buildWords countsOf placeNumbered numberIn childrenFrom marked enter sub below subsUnder subAt headAt lowestOpen isIn among sameConstraint has unstruck constraintsLeft wordsOf wordsLeft size without heads caseRows defaultRows entering holding rowsWithout testOf variablesFrom leafOf casesOf nodeOf compiler.step compileBy compile bookRows bookTree partOf markedPart childParts insideOf enterPart bodyFor leafBody variableWords caseCount long longCases caseHeads layout layoutCases treeWords goTo variablesIn soundVariable soundVariables leafNode isWord caseOf switchNode closedNode sameNode nodeAt nextAt walkBy walkFrom walk countsFit bookFits shifted replaced inBody write rewritten rewriteRoot partAt spliced seekRule lowestOffset wholeWithin step simplifyBy simplify simplifyAnswer simplifyWords simplifySteps s l v m simplifyGives
 right-sides = (refl, refl, refl, refl, refl, refl, refl, refl)
 
 -- ---- simplifying: the answer, the steps and the words, in a room of six words
-pub record Seen : Type 0 where
-  answer : Answer
-  steps : ℕ
-  left : List ℕ
+abbrev simplified : ℕ → List ℕ → List ℕ → ℕ → List ℕ → SimplifyOutcome
+simplified room book table budget ws = simplifyGives book table ws budget room
 
-abbrev simplified : ℕ → List ℕ → List ℕ → ℕ → List ℕ → Seen
-simplified room book table budget ws =
-    let r = simplify book table budget ws in record { answer = simplifyAnswer room r; steps = simplifySteps r; left = simplifyWords room r }
-
-abbrev says : Answer → ℕ → List ℕ → Seen
-says a n ws = record { answer = a; steps = n; left = ws }
+abbrev says : Answer → ℕ → List ℕ → SimplifyOutcome
+says a n ws = simplifyCame (answered a) n ws
 
 term-0 : List ℕ
 term-0 = s 2 2 ∷ s 3 1 ∷ l ∷ s 7 0 ∷ s 7 0 ∷ []
@@ -83,7 +78,7 @@ breaks-at-l = 2 ∷ 0 ∷ 2 ∷ l ∷ 11 ∷ s 2 2 ∷ 12 ∷ 10 ∷ 0 ∷ 0 ∷
 terms-A :
     (simplified 6 bookA (treeWords bookA) 1000 term-0 ≡ says Done 2 (s 7 0 ∷ 0 ∷ 0 ∷ 0 ∷ 0 ∷ 0 ∷ []))
     × (simplified 6 bookA (treeWords bookA) 1000 term-1 ≡ says Done 2 (s 4 1 ∷ s 4 1 ∷ s 3 1 ∷ l ∷ v 1 ∷ 0 ∷ []))
-unfolding word kind count ident headOf headWith words width kinds nesting read firsts others _⧺_ check scan settle mayStand position listed goodList inside idBody idTerm renumberHead renumber namedHead named closed toBody toTerm sameWords padded idsOf leftShape rootSymbol rightShape counted oneCount allOccur noOther goodLeft goodRight goodRule ruleOf judge checkBook nthRule ruleAt leftOf tree childrenOf isHead bodyHere occurrences closeds firstOf sames constraints treeOf leftIn largest withinLimits limited buildAnswer buildWords countsOf placeNumbered numberIn childrenFrom marked enter sub below subsUnder subAt headAt lowestOpen isIn among sameConstraint has unstruck constraintsLeft wordsOf wordsLeft size without heads caseRows defaultRows entering holding rowsWithout testOf variablesFrom leafOf casesOf nodeOf compiler.step compileBy compile bookRows bookTree partOf markedPart childParts insideOf enterPart bodyFor leafBody variableWords caseCount long longCases caseHeads layout layoutCases treeWords goTo variablesIn soundVariable soundVariables leafNode isWord caseOf switchNode closedNode sameNode nodeAt nextAt walkBy walkFrom walk countsFit bookFits shifted replaced inBody write rewritten rewriteRoot partAt spliced seekRule lowestOffset wholeWithin step simplifyBy simplify simplifyAnswer simplifyWords simplifySteps s l v m bookA term-0 term-1
+unfolding word kind rank count ident headOf headWith words width ranks nesting read firsts others _⧺_ check scan settle mayStand position listed goodList inside idBody idTerm renumberHead renumber namedHead named closed toBody toTerm sameWords padded idsOf leftShape rootSymbol rightShape counted oneCount allOccur noOther goodLeft goodRight goodRule ruleOf judge checkBook accept nthRule ruleAt leftOf tree childrenOf isHead bodyHere occurrences closeds firstOf sames constraints treeOf leftIn largest withinLimits limited buildAnswer buildWords countsOf placeNumbered numberIn childrenFrom marked enter sub below subsUnder subAt headAt lowestOpen isIn among sameConstraint has unstruck constraintsLeft wordsOf wordsLeft size without heads caseRows defaultRows entering holding rowsWithout testOf variablesFrom leafOf casesOf nodeOf compiler.step compileBy compile bookRows bookTree partOf markedPart childParts insideOf enterPart bodyFor leafBody variableWords caseCount long longCases caseHeads layout layoutCases treeWords goTo variablesIn soundVariable soundVariables leafNode isWord caseOf switchNode closedNode sameNode nodeAt nextAt walkBy walkFrom walk countsFit bookFits shifted replaced inBody write rewritten rewriteRoot partAt spliced seekRule lowestOffset wholeWithin step simplifyBy simplify simplifyAnswer simplifyWords simplifySteps s l v m bookA term-0 term-1 simplifyGives
 terms-A = (refl, refl)
 
 -- budgets 0, 1 and exact; room for the result and one word short of it
@@ -95,7 +90,7 @@ budgets-A :
     × (simplified 6 bookA (treeWords bookA) 0 (v 3 ∷ []) ≡ says Done 0 (v 3 ∷ 0 ∷ 0 ∷ 0 ∷ 0 ∷ 0 ∷ []))
     × (simplified 5 bookA (treeWords bookA) 2 term-1 ≡ says Done 2 (s 4 1 ∷ s 4 1 ∷ s 3 1 ∷ l ∷ v 1 ∷ []))
     × (simplified 4 bookA (treeWords bookA) 2 term-1 ≡ says Short 2 (0 ∷ 0 ∷ 0 ∷ 0 ∷ []))
-unfolding word kind count ident headOf headWith words width kinds nesting read firsts others _⧺_ check scan settle mayStand position listed goodList inside idBody idTerm renumberHead renumber namedHead named closed toBody toTerm sameWords padded idsOf leftShape rootSymbol rightShape counted oneCount allOccur noOther goodLeft goodRight goodRule ruleOf judge checkBook nthRule ruleAt leftOf tree childrenOf isHead bodyHere occurrences closeds firstOf sames constraints treeOf leftIn largest withinLimits limited buildAnswer buildWords countsOf placeNumbered numberIn childrenFrom marked enter sub below subsUnder subAt headAt lowestOpen isIn among sameConstraint has unstruck constraintsLeft wordsOf wordsLeft size without heads caseRows defaultRows entering holding rowsWithout testOf variablesFrom leafOf casesOf nodeOf compiler.step compileBy compile bookRows bookTree partOf markedPart childParts insideOf enterPart bodyFor leafBody variableWords caseCount long longCases caseHeads layout layoutCases treeWords goTo variablesIn soundVariable soundVariables leafNode isWord caseOf switchNode closedNode sameNode nodeAt nextAt walkBy walkFrom walk countsFit bookFits shifted replaced inBody write rewritten rewriteRoot partAt spliced seekRule lowestOffset wholeWithin step simplifyBy simplify simplifyAnswer simplifyWords simplifySteps s l v m bookA term-0 term-1
+unfolding word kind rank count ident headOf headWith words width ranks nesting read firsts others _⧺_ check scan settle mayStand position listed goodList inside idBody idTerm renumberHead renumber namedHead named closed toBody toTerm sameWords padded idsOf leftShape rootSymbol rightShape counted oneCount allOccur noOther goodLeft goodRight goodRule ruleOf judge checkBook accept nthRule ruleAt leftOf tree childrenOf isHead bodyHere occurrences closeds firstOf sames constraints treeOf leftIn largest withinLimits limited buildAnswer buildWords countsOf placeNumbered numberIn childrenFrom marked enter sub below subsUnder subAt headAt lowestOpen isIn among sameConstraint has unstruck constraintsLeft wordsOf wordsLeft size without heads caseRows defaultRows entering holding rowsWithout testOf variablesFrom leafOf casesOf nodeOf compiler.step compileBy compile bookRows bookTree partOf markedPart childParts insideOf enterPart bodyFor leafBody variableWords caseCount long longCases caseHeads layout layoutCases treeWords goTo variablesIn soundVariable soundVariables leafNode isWord caseOf switchNode closedNode sameNode nodeAt nextAt walkBy walkFrom walk countsFit bookFits shifted replaced inBody write rewritten rewriteRoot partAt spliced seekRule lowestOffset wholeWithin step simplifyBy simplify simplifyAnswer simplifyWords simplifySteps s l v m bookA term-0 term-1 simplifyGives
 budgets-A = (refl, refl, refl, refl, refl, refl, refl)
 
 -- the lowest offset: two parts fit rule 0, and the one that begins first is rewritten, not the one inside it
@@ -103,7 +98,7 @@ lowest-A :
     (simplified 7 bookA (treeWords bookA) 1 (s 2 2 ∷ s 2 2 ∷ v 1 ∷ v 1 ∷ s 2 2 ∷ v 1 ∷ v 1 ∷ []) ≡ says BudgetUsed 1 (s 2 2 ∷ v 1 ∷ v 1 ∷ 0 ∷ 0 ∷ 0 ∷ 0 ∷ []))
     -- and of two side by side the left one
     × (simplified 7 bookA (treeWords bookA) 1 (s 5 2 ∷ s 2 2 ∷ v 1 ∷ v 1 ∷ s 2 2 ∷ v 2 ∷ v 2 ∷ []) ≡ says BudgetUsed 1 (s 5 2 ∷ v 1 ∷ s 2 2 ∷ v 2 ∷ v 2 ∷ 0 ∷ 0 ∷ []))
-unfolding word kind count ident headOf headWith words width kinds nesting read firsts others _⧺_ check scan settle mayStand position listed goodList inside idBody idTerm renumberHead renumber namedHead named closed toBody toTerm sameWords padded idsOf leftShape rootSymbol rightShape counted oneCount allOccur noOther goodLeft goodRight goodRule ruleOf judge checkBook nthRule ruleAt leftOf tree childrenOf isHead bodyHere occurrences closeds firstOf sames constraints treeOf leftIn largest withinLimits limited buildAnswer buildWords countsOf placeNumbered numberIn childrenFrom marked enter sub below subsUnder subAt headAt lowestOpen isIn among sameConstraint has unstruck constraintsLeft wordsOf wordsLeft size without heads caseRows defaultRows entering holding rowsWithout testOf variablesFrom leafOf casesOf nodeOf compiler.step compileBy compile bookRows bookTree partOf markedPart childParts insideOf enterPart bodyFor leafBody variableWords caseCount long longCases caseHeads layout layoutCases treeWords goTo variablesIn soundVariable soundVariables leafNode isWord caseOf switchNode closedNode sameNode nodeAt nextAt walkBy walkFrom walk countsFit bookFits shifted replaced inBody write rewritten rewriteRoot partAt spliced seekRule lowestOffset wholeWithin step simplifyBy simplify simplifyAnswer simplifyWords simplifySteps s l v m bookA
+unfolding word kind rank count ident headOf headWith words width ranks nesting read firsts others _⧺_ check scan settle mayStand position listed goodList inside idBody idTerm renumberHead renumber namedHead named closed toBody toTerm sameWords padded idsOf leftShape rootSymbol rightShape counted oneCount allOccur noOther goodLeft goodRight goodRule ruleOf judge checkBook accept nthRule ruleAt leftOf tree childrenOf isHead bodyHere occurrences closeds firstOf sames constraints treeOf leftIn largest withinLimits limited buildAnswer buildWords countsOf placeNumbered numberIn childrenFrom marked enter sub below subsUnder subAt headAt lowestOpen isIn among sameConstraint has unstruck constraintsLeft wordsOf wordsLeft size without heads caseRows defaultRows entering holding rowsWithout testOf variablesFrom leafOf casesOf nodeOf compiler.step compileBy compile bookRows bookTree partOf markedPart childParts insideOf enterPart bodyFor leafBody variableWords caseCount long longCases caseHeads layout layoutCases treeWords goTo variablesIn soundVariable soundVariables leafNode isWord caseOf switchNode closedNode sameNode nodeAt nextAt walkBy walkFrom walk countsFit bookFits shifted replaced inBody write rewritten rewriteRoot partAt spliced seekRule lowestOffset wholeWithin step simplifyBy simplify simplifyAnswer simplifyWords simplifySteps s l v m bookA simplifyGives
 lowest-A = (refl, refl)
 
 -- refusals: the book before the term, the term before the tree; steps completed
@@ -116,7 +111,7 @@ refusals :
     -- a tree that is damaged where it meets an abstraction: before a later offset is looked at, and after a step that is completed
     × (simplified 2 bookA breaks-at-l 9 (s 5 2 ∷ l ∷ v 1 ∷ s 2 2 ∷ v 1 ∷ v 1 ∷ []) ≡ says (Damaged 11) 0 (0 ∷ 0 ∷ []))
     × (simplified 2 bookA breaks-at-l 9 (s 5 2 ∷ s 2 2 ∷ v 1 ∷ v 1 ∷ l ∷ v 1 ∷ []) ≡ says (Damaged 11) 1 (0 ∷ 0 ∷ []))
-unfolding word kind count ident headOf headWith words width kinds nesting read firsts others _⧺_ check scan settle mayStand position listed goodList inside idBody idTerm renumberHead renumber namedHead named closed toBody toTerm sameWords padded idsOf leftShape rootSymbol rightShape counted oneCount allOccur noOther goodLeft goodRight goodRule ruleOf judge checkBook nthRule ruleAt leftOf tree childrenOf isHead bodyHere occurrences closeds firstOf sames constraints treeOf leftIn largest withinLimits limited buildAnswer buildWords countsOf placeNumbered numberIn childrenFrom marked enter sub below subsUnder subAt headAt lowestOpen isIn among sameConstraint has unstruck constraintsLeft wordsOf wordsLeft size without heads caseRows defaultRows entering holding rowsWithout testOf variablesFrom leafOf casesOf nodeOf compiler.step compileBy compile bookRows bookTree partOf markedPart childParts insideOf enterPart bodyFor leafBody variableWords caseCount long longCases caseHeads layout layoutCases treeWords goTo variablesIn soundVariable soundVariables leafNode isWord caseOf switchNode closedNode sameNode nodeAt nextAt walkBy walkFrom walk countsFit bookFits shifted replaced inBody write rewritten rewriteRoot partAt spliced seekRule lowestOffset wholeWithin step simplifyBy simplify simplifyAnswer simplifyWords simplifySteps s l v m bookA breaks-at-l
+unfolding word kind rank count ident headOf headWith words width ranks nesting read firsts others _⧺_ check scan settle mayStand position listed goodList inside idBody idTerm renumberHead renumber namedHead named closed toBody toTerm sameWords padded idsOf leftShape rootSymbol rightShape counted oneCount allOccur noOther goodLeft goodRight goodRule ruleOf judge checkBook accept nthRule ruleAt leftOf tree childrenOf isHead bodyHere occurrences closeds firstOf sames constraints treeOf leftIn largest withinLimits limited buildAnswer buildWords countsOf placeNumbered numberIn childrenFrom marked enter sub below subsUnder subAt headAt lowestOpen isIn among sameConstraint has unstruck constraintsLeft wordsOf wordsLeft size without heads caseRows defaultRows entering holding rowsWithout testOf variablesFrom leafOf casesOf nodeOf compiler.step compileBy compile bookRows bookTree partOf markedPart childParts insideOf enterPart bodyFor leafBody variableWords caseCount long longCases caseHeads layout layoutCases treeWords goTo variablesIn soundVariable soundVariables leafNode isWord caseOf switchNode closedNode sameNode nodeAt nextAt walkBy walkFrom walk countsFit bookFits shifted replaced inBody write rewritten rewriteRoot partAt spliced seekRule lowestOffset wholeWithin step simplifyBy simplify simplifyAnswer simplifyWords simplifySteps s l v m bookA breaks-at-l simplifyGives
 refusals = (refl, refl, refl, refl, refl, refl)
 
 -- the limits are those of the whole term: an id that passes 65,535 under an abstraction of the right side
@@ -127,7 +122,7 @@ limits-D :
     (simplified 3 bookD (treeWords bookD) 1 (s 1 1 ∷ v 65534 ∷ []) ≡ says Done 1 (l ∷ v 65535 ∷ 0 ∷ []))
     × (simplified 3 bookD (treeWords bookD) 1 (s 1 1 ∷ v 65535 ∷ []) ≡ says Over 0 (0 ∷ 0 ∷ 0 ∷ []))
     × (simplified 3 bookD (treeWords bookD) 0 (s 1 1 ∷ v 65535 ∷ []) ≡ says BudgetUsed 0 (s 1 1 ∷ v 65535 ∷ 0 ∷ []))
-unfolding word kind count ident headOf headWith words width kinds nesting read firsts others _⧺_ check scan settle mayStand position listed goodList inside idBody idTerm renumberHead renumber namedHead named closed toBody toTerm sameWords padded idsOf leftShape rootSymbol rightShape counted oneCount allOccur noOther goodLeft goodRight goodRule ruleOf judge checkBook nthRule ruleAt leftOf tree childrenOf isHead bodyHere occurrences closeds firstOf sames constraints treeOf leftIn largest withinLimits limited buildAnswer buildWords countsOf placeNumbered numberIn childrenFrom marked enter sub below subsUnder subAt headAt lowestOpen isIn among sameConstraint has unstruck constraintsLeft wordsOf wordsLeft size without heads caseRows defaultRows entering holding rowsWithout testOf variablesFrom leafOf casesOf nodeOf compiler.step compileBy compile bookRows bookTree partOf markedPart childParts insideOf enterPart bodyFor leafBody variableWords caseCount long longCases caseHeads layout layoutCases treeWords goTo variablesIn soundVariable soundVariables leafNode isWord caseOf switchNode closedNode sameNode nodeAt nextAt walkBy walkFrom walk countsFit bookFits shifted replaced inBody write rewritten rewriteRoot partAt spliced seekRule lowestOffset wholeWithin step simplifyBy simplify simplifyAnswer simplifyWords simplifySteps s l v m bookD
+unfolding word kind rank count ident headOf headWith words width ranks nesting read firsts others _⧺_ check scan settle mayStand position listed goodList inside idBody idTerm renumberHead renumber namedHead named closed toBody toTerm sameWords padded idsOf leftShape rootSymbol rightShape counted oneCount allOccur noOther goodLeft goodRight goodRule ruleOf judge checkBook accept nthRule ruleAt leftOf tree childrenOf isHead bodyHere occurrences closeds firstOf sames constraints treeOf leftIn largest withinLimits limited buildAnswer buildWords countsOf placeNumbered numberIn childrenFrom marked enter sub below subsUnder subAt headAt lowestOpen isIn among sameConstraint has unstruck constraintsLeft wordsOf wordsLeft size without heads caseRows defaultRows entering holding rowsWithout testOf variablesFrom leafOf casesOf nodeOf compiler.step compileBy compile bookRows bookTree partOf markedPart childParts insideOf enterPart bodyFor leafBody variableWords caseCount long longCases caseHeads layout layoutCases treeWords goTo variablesIn soundVariable soundVariables leafNode isWord caseOf switchNode closedNode sameNode nodeAt nextAt walkBy walkFrom walk countsFit bookFits shifted replaced inBody write rewritten rewriteRoot partAt spliced seekRule lowestOffset wholeWithin step simplifyBy simplify simplifyAnswer simplifyWords simplifySteps s l v m bookD simplifyGives
 limits-D = (refl, refl, refl)
 
 -- and a nesting over 64 of the whole, not of what is written
@@ -141,7 +136,7 @@ under (suc n) ws = l ∷ under n ws
 limits-E :
     (simplified 64 bookE (treeWords bookE) 1 (under 61 (s 1 1 ∷ v 1 ∷ [])) ≡ says Done 1 (under 63 (v 3 ∷ [])))
     × (simplified 1 bookE (treeWords bookE) 1 (under 62 (s 1 1 ∷ v 1 ∷ [])) ≡ says Over 0 (0 ∷ []))
-unfolding word kind count ident headOf headWith words width kinds nesting read firsts others _⧺_ check scan settle mayStand position listed goodList inside idBody idTerm renumberHead renumber namedHead named closed toBody toTerm sameWords padded idsOf leftShape rootSymbol rightShape counted oneCount allOccur noOther goodLeft goodRight goodRule ruleOf judge checkBook nthRule ruleAt leftOf tree childrenOf isHead bodyHere occurrences closeds firstOf sames constraints treeOf leftIn largest withinLimits limited buildAnswer buildWords countsOf placeNumbered numberIn childrenFrom marked enter sub below subsUnder subAt headAt lowestOpen isIn among sameConstraint has unstruck constraintsLeft wordsOf wordsLeft size without heads caseRows defaultRows entering holding rowsWithout testOf variablesFrom leafOf casesOf nodeOf compiler.step compileBy compile bookRows bookTree partOf markedPart childParts insideOf enterPart bodyFor leafBody variableWords caseCount long longCases caseHeads layout layoutCases treeWords goTo variablesIn soundVariable soundVariables leafNode isWord caseOf switchNode closedNode sameNode nodeAt nextAt walkBy walkFrom walk countsFit bookFits shifted replaced inBody write rewritten rewriteRoot partAt spliced seekRule lowestOffset wholeWithin step simplifyBy simplify simplifyAnswer simplifyWords simplifySteps s l v m bookE under
+unfolding word kind rank count ident headOf headWith words width ranks nesting read firsts others _⧺_ check scan settle mayStand position listed goodList inside idBody idTerm renumberHead renumber namedHead named closed toBody toTerm sameWords padded idsOf leftShape rootSymbol rightShape counted oneCount allOccur noOther goodLeft goodRight goodRule ruleOf judge checkBook accept nthRule ruleAt leftOf tree childrenOf isHead bodyHere occurrences closeds firstOf sames constraints treeOf leftIn largest withinLimits limited buildAnswer buildWords countsOf placeNumbered numberIn childrenFrom marked enter sub below subsUnder subAt headAt lowestOpen isIn among sameConstraint has unstruck constraintsLeft wordsOf wordsLeft size without heads caseRows defaultRows entering holding rowsWithout testOf variablesFrom leafOf casesOf nodeOf compiler.step compileBy compile bookRows bookTree partOf markedPart childParts insideOf enterPart bodyFor leafBody variableWords caseCount long longCases caseHeads layout layoutCases treeWords goTo variablesIn soundVariable soundVariables leafNode isWord caseOf switchNode closedNode sameNode nodeAt nextAt walkBy walkFrom walk countsFit bookFits shifted replaced inBody write rewritten rewriteRoot partAt spliced seekRule lowestOffset wholeWithin step simplifyBy simplify simplifyAnswer simplifyWords simplifySteps s l v m bookE under simplifyGives
 limits-E = (refl, refl)
 
 -- ---- rewriting at the root
@@ -157,5 +152,5 @@ roots-A :
     × (rootAnswer 3 bookA (5 ∷ []) (s 3 1 ∷ l ∷ []) ≡ BadTerm 2)
     × (rootAnswer 3 [] (5 ∷ []) (s 3 1 ∷ l ∷ []) ≡ BadBook 0)
     × (rootAnswer 3 bookD (treeWords bookD) (s 1 1 ∷ v 65535 ∷ []) ≡ Over)
-unfolding word kind count ident headOf headWith words width kinds nesting read firsts others _⧺_ check scan settle mayStand position listed goodList inside idBody idTerm renumberHead renumber namedHead named closed toBody toTerm sameWords padded idsOf leftShape rootSymbol rightShape counted oneCount allOccur noOther goodLeft goodRight goodRule ruleOf judge checkBook nthRule ruleAt leftOf tree childrenOf isHead bodyHere occurrences closeds firstOf sames constraints treeOf leftIn largest withinLimits limited buildAnswer buildWords countsOf placeNumbered numberIn childrenFrom marked enter sub below subsUnder subAt headAt lowestOpen isIn among sameConstraint has unstruck constraintsLeft wordsOf wordsLeft size without heads caseRows defaultRows entering holding rowsWithout testOf variablesFrom leafOf casesOf nodeOf compiler.step compileBy compile bookRows bookTree partOf markedPart childParts insideOf enterPart bodyFor leafBody variableWords caseCount long longCases caseHeads layout layoutCases treeWords goTo variablesIn soundVariable soundVariables leafNode isWord caseOf switchNode closedNode sameNode nodeAt nextAt walkBy walkFrom walk countsFit bookFits shifted replaced inBody write rewritten rewriteRoot partAt spliced seekRule lowestOffset wholeWithin step simplifyBy simplify simplifyAnswer simplifyWords simplifySteps s l v m bookA bookD
+unfolding word kind rank count ident headOf headWith words width ranks nesting read firsts others _⧺_ check scan settle mayStand position listed goodList inside idBody idTerm renumberHead renumber namedHead named closed toBody toTerm sameWords padded idsOf leftShape rootSymbol rightShape counted oneCount allOccur noOther goodLeft goodRight goodRule ruleOf judge checkBook accept nthRule ruleAt leftOf tree childrenOf isHead bodyHere occurrences closeds firstOf sames constraints treeOf leftIn largest withinLimits limited buildAnswer buildWords countsOf placeNumbered numberIn childrenFrom marked enter sub below subsUnder subAt headAt lowestOpen isIn among sameConstraint has unstruck constraintsLeft wordsOf wordsLeft size without heads caseRows defaultRows entering holding rowsWithout testOf variablesFrom leafOf casesOf nodeOf compiler.step compileBy compile bookRows bookTree partOf markedPart childParts insideOf enterPart bodyFor leafBody variableWords caseCount long longCases caseHeads layout layoutCases treeWords goTo variablesIn soundVariable soundVariables leafNode isWord caseOf switchNode closedNode sameNode nodeAt nextAt walkBy walkFrom walk countsFit bookFits shifted replaced inBody write rewritten rewriteRoot partAt spliced seekRule lowestOffset wholeWithin step simplifyBy simplify simplifyAnswer simplifyWords simplifySteps s l v m bookA bookD simplifyGives
 roots-A = (refl, refl, refl, refl, refl, refl, refl, refl, refl, refl)

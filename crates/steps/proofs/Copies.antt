@@ -8,11 +8,11 @@ use lib.Seq.{length-take-le, take-length, take-add, take-take, drop-at, paste, p
 use borrow.Author.Tests.{le-leb, lt-leb}
 use Rattle.term.specs.declared.answer.Answer.{Answer}
 use Rattle.term.specs.declared.answer.Answer.the-variants as answer
-use Rattle.term.specs.declared.renumber.Step.the-variants.{Done, Stuck}
+use Rattle.term.specs.declared.renumber.Passed.the-variants.{Done, Stuck}
 use Rattle.term.specs.Part.{padded, partEnd}
 use Rattle.term.proofs.Laws.{padded-fits, padded-short, part-short}
-use Rattle.steps.specs.Area.{splicedWords, SpliceTold}
-use Rattle.steps.specs.Operations.{givenAnswer}
+use Rattle.steps.specs.told.Area.{splicedWords, SpliceTold}
+use Rattle.steps.specs.told.Operations.{givenAnswer}
 
 -- ---- a copy
 pub copied-more : (d : List ℕ) (at : ℕ) (s : List ℕ) (j : ℕ) (to : List ℕ) → at + length s ≤ length d → j < length s → to ≡ paste d at s j → set to (at + j) (getD s j 0) ≡ paste d at s (j + 1)

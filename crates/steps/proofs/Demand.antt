@@ -15,6 +15,7 @@ use Rattle.term.specs.Row.{Row, words}
 use Rattle.term.specs.Check.{IsTerm, termLimits}
 use Rattle.term.proofs.Laws.{never, tree-good}
 use Rattle.book.specs.Book.{checkBook}
+use Rattle.book.proofs.Laws.{good-accepted}
 use Rattle.fit.specs.Fit.{IsBody}
 use Rattle.fit.specs.Lowest.{Fitting, lowest}
 use Rattle.fit.specs.Build.{withinLimits}
@@ -170,10 +171,10 @@ module _ (book : List ℕ) (accepted : checkBook book ≡ Good) (table : List �
     pub compiled-simplify : (budget : ℕ) → Simplified book budget (term .tree) (simplify book table budget ws)
     unfolding simplify
     compiled-simplify budget =
-        rw (accepted, tree-good termLimits ws term, tree-of termLimits ws term)
+        rw (good-accepted book accepted, tree-good termLimits ws term, tree-of termLimits ws term)
         (run-of budget (term .tree) (term-row ws term) (simplifyBy book table budget (term .tree)) (run-is book table budget (term .tree)))
 
     -- rewriting at the root with the compiled tree: by the lowest rule that fits
     pub compiled-root : rewriteRoot book table ws ≡ walkedRoot book (walkedOf (varsIn book) (lowest book 0 (getD book 0 0) (term .tree)))
     unfolding rewriteRoot
-    compiled-root = rw (accepted, tree-good termLimits ws term, tree-of termLimits ws term) (ap (walkedRoot book) (looks (term .tree) (term-row ws term)))
+    compiled-root = rw (good-accepted book accepted, tree-good termLimits ws term, tree-of termLimits ws term) (ap (walkedRoot book) (looks (term .tree) (term-row ws term)))

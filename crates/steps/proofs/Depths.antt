@@ -9,10 +9,13 @@ use lib.Dec.{eqb}
 use lib.ListN.{length, getD, set, length-set, length-replicate}
 use lib.Seq.{getD-set-same, getD-set-other}
 use borrow.Author.Tests.{eqb-true, eqb-false, eq-eqb, ne-eqb}
-use Rattle.term.specs.Word.{kindOf}
+use Rattle.term.specs.Word.{kindOf, pick}
+use Rattle.term.specs.told.Walk.{insideWord}
+use Rattle.term.proofs.Laws.{inside-small}
 use Rattle.steps.specs.declared.under.Under.{Under}
-use Rattle.steps.specs.Told.{deeper}
-use Rattle.steps.specs.Under.{Around, atRoot, deeperBy, entered, insideRight, idsFrom, idsIn}
+use Rattle.steps.specs.declared.under.Within.{Within}
+use Rattle.steps.specs.told.Told.{deeper}
+use Rattle.steps.specs.told.Under.{Around, atRoot, deeperBy, lowered, entered, insideRight, insideBody, idsFrom, idsIn}
 
 pub length-ids : (depth : ℕ) (marks : List ℕ) (n : ℕ) → length (idsFrom depth marks n) ≡ n
 unfolding idsFrom
@@ -44,14 +47,25 @@ ids-at depth marks (suc n) (suc i) h =
     let e : suc n - suc i - 1 ≡ n - i - 1 = omega arith in rw e (ids-at depth marks n i (omega (arith, h)))
 
 -- ---- where a word is written
-pub around-root : Around atRoot
-around-root = record { long = length-replicate {A = ℕ} 16 0; few = omega arith; low = λ j h. absurd (omega (arith, h)) }
+pub around-root : (levels : ℕ) → Around (atRoot levels)
+around-root levels = record { long = length-replicate {A = ℕ} 16 0; few = omega arith; low = λ j h. absurd (omega (arith, h)) }
 
-pub inside-abstraction-is : (u : Under) (w : ℕ) → kindOf w ≡ 1 → insideRight w u ≡ entered u
+pub inside-abstraction-is : (u : Under) (w : ℕ) → kindOf w ≡ 1 → insideRight w u ≡ entered (lowered u)
 inside-abstraction-is u w k = rw (eq-eqb (kindOf w) 1 k)
 
-pub inside-other-is : (u : Under) (w : ℕ) → (kindOf w ≡ 1 → ⊥) → insideRight w u ≡ u
+pub inside-other-is : (u : Under) (w : ℕ) → (kindOf w ≡ 1 → ⊥) → insideRight w u ≡ lowered u
 inside-other-is u w k = rw (ne-eqb (kindOf w) 1 k)
+
+-- how many levels may nest is of no account there
+pub around-lowered : (u : Under) → Around u → Around (lowered u)
+around-lowered u a = record { long = a .long; few = a .few; low = a .low }
+
+pub inside-levels : (u : Under) (w : ℕ) → insideRight w u .levels ≡ u .levels - 1
+inside-levels u w = go (eqb (kindOf w) 1)
+  where
+    go : (b : Bool) → pick b (entered (lowered u)) (lowered u) .levels ≡ u .levels - 1
+    go true = refl
+    go false = refl
 
 module _ (u : Under) (a : Around u) where
   pub around-deeper : (e : ℕ) → Around (deeperBy e u)
@@ -83,13 +97,6 @@ module _ (u : Under) (a : Around u) where
       rw (add-one (u .own))
       (ap₂ _∷_ x (ids-kept (u .depth + 1) (u .depth) (u .marks) (u .own) (u .own) (omega arith) ∙ ids-deeper (u .depth) 1 (u .marks) (u .own) (a .low)))
 
-  pub around-inside : (w : ℕ) → u .own < 16 → Around (insideRight w u)
-  around-inside w m = go (eqb (kindOf w) 1) refl
-    where
-      go : (b : Bool) → eqb (kindOf w) 1 ≡ b → Around (insideRight w u)
-      go true q = rw q (around-entered m)
-      go false q = rw q a
-
   pub inside-depth : (w : ℕ) → insideRight w u .depth ≤ u .depth + 1
   inside-depth w = go (eqb (kindOf w) 1) refl
     where
@@ -105,20 +112,51 @@ module _ (u : Under) (a : Around u) where
   pub own-low : (i : ℕ) → 1 ≤ i → i ≤ u .own → getD (u .marks) (u .own - i) 0 ≤ u .depth
   own-low i h l = let m = a .low (u .own - i) (omega (arith, h, l)) in omega (arith, m)
 
-  pub inside-low : (v : Under) (w levels : ℕ) → v ≡ insideRight w u → u .depth + levels ≤ 64 → (levels ≡ 0 → ⊥) → v .depth + (levels - 1) ≤ 64
-  inside-low v w levels q h z = let d = inside-depth w in let e : v .depth ≡ insideRight w u .depth = ap (λ (x : Under). x .depth) q in omega (arith, d, e, h, z)
+  pub inside-low : (v : Under) (w : ℕ) → v ≡ insideRight w u → u .depth + u .levels ≤ 64 → (u .levels ≡ 0 → ⊥) → v .depth + v .levels ≤ 64
+  inside-low v w q h z =
+      let d = inside-depth w in
+      let e : v .depth ≡ insideRight w u .depth = ap (λ (x : Under). x .depth) q in
+      let f : v .levels ≡ u .levels - 1 = ap (λ (x : Under). x .levels) q ∙ inside-levels u w in
+      omega (arith, d, e, f, h, z)
 
-  pub inside-around : (v : Under) (w : ℕ) → v ≡ insideRight w u → u .own < 16 → Around v
-  inside-around v w q m = rw q (around-inside w m)
+pub inside-around : (u : Under) → Around u → (v : Under) (w : ℕ) → v ≡ insideRight w u → u .own < 16 → Around v
+inside-around u a v w q m = rw q (go (eqb (kindOf w) 1))
+  where
+    go : (b : Bool) → Around (pick b (entered (lowered u)) (lowered u))
+    go true = around-entered (lowered u) (around-lowered u a) m
+    go false = around-lowered u a
 
-pub deeper-low : (u v : Under) (e levels : ℕ) → v ≡ deeperBy e u → u .depth + e + levels ≤ 64 → v .depth + levels ≤ 64
-deeper-low u v e levels q h = let d : v .depth ≡ u .depth + e = ap (λ (x : Under). x .depth) q in omega (arith, d, h)
+-- inside a word of a body
+module _ (b v : Within) (w : ℕ) (q : v ≡ insideBody w b) where
+  pub body-at : v .at ≡ b .at
+  body-at = ap (λ (x : Within). x .at) q
+
+  pub body-levels : v .under .levels ≡ b .under .levels - 1
+  body-levels = ap (λ (x : Within). x .under .levels) q
+
+  pub body-low : b .under .depth + b .e + b .under .levels ≤ 64 → (b .under .levels ≡ 0 → ⊥) → v .under .depth + v .e + v .under .levels ≤ 64
+  body-low h z =
+      let d : v .under .depth ≡ b .under .depth = ap (λ (x : Within). x .under .depth) q in
+      let e : v .e ≡ insideWord w (b .e) = ap (λ (x : Within). x .e) q in
+      omega (arith, d, e, body-levels, inside-small w (b .e), h, z)
+
+  pub body-around : Around (b .under) → Around (v .under)
+  body-around a = rw q (around-lowered (b .under) a)
+
+pub deeper-low : (u v : Under) (e : ℕ) → v ≡ deeperBy e u → u .depth + e + u .levels ≤ 64 → v .depth + v .levels ≤ 64
+deeper-low u v e q h =
+    let d : v .depth ≡ u .depth + e = ap (λ (x : Under). x .depth) q in
+    let f : v .levels ≡ u .levels = ap (λ (x : Under). x .levels) q in
+    omega (arith, d, f, h)
 
 pub deeper-around : (u v : Under) (e : ℕ) → v ≡ deeperBy e u → Around u → Around v
 deeper-around u v e q a = rw q (around-deeper u a e)
 
-pub root-low : (v : Under) → v ≡ atRoot → v .depth + 64 ≤ 64
-root-low v q = let d : v .depth ≡ 0 = ap (λ (x : Under). x .depth) q in omega (arith, d)
+pub root-low : (v : Under) → v ≡ atRoot 64 → v .depth + v .levels ≤ 64
+root-low v q =
+    let d : v .depth ≡ 0 = ap (λ (x : Under). x .depth) q in
+    let f : v .levels ≡ 64 = ap (λ (x : Under). x .levels) q in
+    omega (arith, d, f)
 
-pub root-around : (v : Under) → v ≡ atRoot → Around v
-root-around v q = rw q around-root
+pub root-around : (v : Under) → v ≡ atRoot 64 → Around v
+root-around v q = rw q (around-root 64)

@@ -15,6 +15,7 @@ use Rattle.term.specs.Row.{Row, words}
 use Rattle.term.specs.Check.{check, termLimits}
 use Rattle.term.specs.Part.{padded}
 use Rattle.book.specs.Book.{Rule, checkBook, ruleAt}
+use Rattle.book.proofs.Laws.{good-accepted, bad-refused}
 use Rattle.fit.specs.Match.{treeOf}
 use Rattle.fit.specs.Lowest.{Fitting}
 use Rattle.fit.specs.Build.{withinLimits, refused}
@@ -35,29 +36,29 @@ rule-writes-right book f rule e = rw e
 module _ (book table ws : List ℕ) where
   pub rewrite-bad-book : (at : ℕ) → checkBook book ≡ Bad at → rewriteRoot book table ws ≡ refused (BadBook at)
   unfolding rewriteRoot
-  rewrite-bad-book at e = rw e
+  rewrite-bad-book at e = rw (bad-refused book at e)
 
   pub rewrite-bad-term : checkBook book ≡ Good → (at : ℕ) → check termLimits ws ≡ Bad at → rewriteRoot book table ws ≡ refused (BadTerm at)
   unfolding rewriteRoot
-  rewrite-bad-term g at e = rw (g, e)
+  rewrite-bad-term g at e = rw (good-accepted book g, e)
 
   pub rewrite-walked : checkBook book ≡ Good → check termLimits ws ≡ Good → rewriteRoot book table ws ≡ walkedRoot book (walk (bookFits book) table (treeOf ws))
   unfolding rewriteRoot
-  rewrite-walked g e = rw (g, e)
+  rewrite-walked g e = rw (good-accepted book g, e)
 
   -- ---- simplifying
   module _ (budget : ℕ) where
     pub simplify-bad-book : (at : ℕ) → checkBook book ≡ Bad at → simplify book table budget ws ≡ Stopped 0 (BadBook at)
     unfolding simplify
-    simplify-bad-book at e = rw e
+    simplify-bad-book at e = rw (bad-refused book at e)
 
     pub simplify-bad-term : checkBook book ≡ Good → (at : ℕ) → check termLimits ws ≡ Bad at → simplify book table budget ws ≡ Stopped 0 (BadTerm at)
     unfolding simplify
-    simplify-bad-term g at e = rw (g, e)
+    simplify-bad-term g at e = rw (good-accepted book g, e)
 
     pub simplify-runs : checkBook book ≡ Good → check termLimits ws ≡ Good → simplify book table budget ws ≡ simplifyBy book table budget (treeOf ws)
     unfolding simplify
-    simplify-runs g e = rw (g, e)
+    simplify-runs g e = rw (good-accepted book g, e)
 
 -- what is answered, left and counted of a run
 module _ (room n : ℕ) (a : Answer) where

@@ -20,7 +20,7 @@ pub use Rattle.steps.proofs.Shaped.{Shaped, formed-shaped, shaped-forme
 -- Offsets: the part at an offset is read there, and replacing it replaces its words and no others.
 pub use Rattle.steps.proofs.Offsets.{part-words, spliced-words, PartOf, part-of, part-read, part-stands, part-end, Spliced, splice-keeps}
 -- The limits of the whole, from the part that is replaced, or by checking its words.
-pub use Rattle.steps.proofs.Limits.{levels-first, levels-below, levels-beside, Nests, splice-nests, part-within, within-part, check-within, within-check}
+pub use Rattle.steps.proofs.Limits.{levelsAbove, levels-first, levels-below, levels-beside, Nests, splice-nests, part-within, within-part, check-within, within-check}
 -- Every step is at the lowest offset where the walk finds a rule and leaves a term; simplifying counts its steps and ends as it says.
 pub use Rattle.steps.proofs.Steps.{FirstAt, SeekIs, seek-is, lowest-offset-is, part-term, Wrote, found-writes, step-term, StepsTo, EndsAs, rests, used, StopsAs, broken, over, RunIs, run-is, steps-term}
 -- Demand 3 seen from here: with a compiled tree, the lowest offset at which some rule fits at all, and the lowest rule that fits there.
@@ -29,9 +29,8 @@ pub use Rattle.steps.proofs.Demand.{FitsAt, FirstFit, OneStep, Reaches,
 pub use Rattle.steps.proofs.Machine.{simplified-still, done-still, stepsMore, goes-on, result-term, simplify-again, simplify-on}
 -- What is said without trees settles it: a step has one outcome, and a run one end.
 pub use Rattle.steps.proofs.Settled.{write-same, same-written, same-spliced, one-outcome, one-run}
--- Rewriting at the root and simplifying: each promise settles the answer and every lent word.
-pub use Rattle.steps.proofs.Roots.{RootPromised, root-settled}
-pub use Rattle.steps.proofs.Runs.{SimplifyPromised, simplify-settled}
+-- What rewriting at the root and simplifying give, as one record, and answer, steps and lent words one by one: each says the other.
+pub use Rattle.steps.proofs.Came.{rewrite-root-came, came-rewrite-root, simplify-came, came-simplify}
 -- Rewriting at the root and simplifying, judgement by judgement; a damaged node stops a run.
 pub use Rattle.steps.proofs.Judgements.{rule-writes-right, rewrite-bad-book, rewrite-bad-term, rewrite-walked, simplify-bad-book, simplify-bad-term, simplify-runs, stopped-run, ended-run, steps-none, steps-more, none-steps, more-steps, step-made, makes-step, damage-stops}
 -- What simplifying answers and leaves in 4,096 words or more, by how it ended.

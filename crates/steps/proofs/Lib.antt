@@ -21,6 +21,7 @@ mod Machine
 mod Settled
 mod Computed
 mod Copies
+mod Asked
 mod Rewrites
 mod Roots
 mod Seeks
@@ -28,4 +29,5 @@ mod Moves
 mod Runs
 mod Judgements
 mod RunWords
+mod Came
 pub mod Laws

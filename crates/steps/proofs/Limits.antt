@@ -2,21 +2,28 @@
 use mathlib.Core.Path.{_≡_, refl, sym, ap, _∙_}
 use mathlib.Core.Bool.{true}
 use mathlib.Core.List.{List, [], _++_}
-use Prim.Native.Nat.{ℕ, suc, _+_, _-_, _≤_, _<_, max}
+use Prim.Native.Nat.{ℕ, zero, suc, _+_, _-_, _≤_, _<_, max}
 use native.Mathlib.Omega.{arith}
+use lib.Dec.{ltb}
 use lib.ListN.{length}
 use borrow.Author.Tests.{lt-ltb, le-ltb}
 use Rattle.term.specs.declared.check.Checked.the-variants.{Good}
-use Rattle.term.specs.Word.{Head}
-use Rattle.term.specs.Row.{Row, nothing, node, width, words, nesting, kinds, Formed, _⧺_}
+use Rattle.term.specs.Word.{Head, pick}
+use Rattle.term.specs.Row.{Row, nothing, node, width, words, nesting, ranks, Formed, _⧺_}
 use Rattle.term.specs.Check.{check, termLimits}
 use Rattle.term.proofs.Laws.{join-node, nesting-node, nesting-join, formed-nothing, formed-node, node-formed, formed-join, words-unique, tree-good, good-tree}
 use Rattle.fit.specs.Fit.{IsBody}
 use Rattle.fit.specs.Build.{withinLimits}
 use Rattle.fit.proofs.Laws.{within-limits}
-use Rattle.steps.specs.Offset.{spliced, levelsAbove}
+use Rattle.steps.specs.Offset.{spliced}
 use Rattle.steps.proofs.Shaped.{Shaped, formed-shaped, limits-within}
 use Rattle.steps.proofs.Offsets.{at-offset, splice-first, splice-below, splice-beside, splice-keeps}
+
+-- how many nodes stand above the part at an offset
+unfoldable pub levelsAbove : Row → ℕ → ℕ
+levelsAbove nothing at = 0
+levelsAbove (node h kids rest) zero = 0
+levelsAbove (node h kids rest) (suc at) = pick (ltb at (length (words kids))) (suc (levelsAbove kids at)) (levelsAbove rest (at - length (words kids)))
 
 -- ---- clauses
 module _ (h : Head) (kids rest : Row) where
@@ -111,7 +118,7 @@ check-within v f one g =
     let e : v ≡ i .tree = words-unique v (i .tree) [] [] f (i .formed) (one ∙ sym (i .one)) (ap (λ (ws : List ℕ). ws ++ []) (i .same)) .0 in
     within-limits v f (rw (sym e) at (i .low)) (i .short)
 
-pub within-check : (v : Row) → Shaped v → width v ≡ 1 → kinds v ≤ 2 → withinLimits v ≡ true → check termLimits (words v) ≡ Good
+pub within-check : (v : Row) → Shaped v → width v ≡ 1 → ranks v ≤ 2 → withinLimits v ≡ true → check termLimits (words v) ≡ Good
 within-check v s one few e =
     let n = limits-within v s e in
     tree-good termLimits (words v) (record { tree = v; one = one; formed = n .0; few = few; low = n .1; short = n .2; same = refl })

@@ -10,6 +10,7 @@ use Rattle.term.specs.Row.{Row, words}
 use Rattle.term.specs.Check.{IsTerm, termLimits}
 use Rattle.term.proofs.Laws.{never, tree-good}
 use Rattle.book.specs.Book.{checkBook}
+use Rattle.book.proofs.Laws.{good-accepted}
 use Rattle.fit.specs.Fit.{IsBody}
 use Rattle.fit.proofs.Laws.{tree-of}
 use Rattle.steps.specs.Step.{Sought, Nowhere, FoundAt, Broken, lowestOffset, Stepped, Rests, Becomes, Refused, step}
@@ -65,7 +66,7 @@ module _ (book table : List ℕ) where
 module _ (book : List ℕ) (accepted : checkBook book ≡ Good) (table : List ℕ) where
   simplify-is : (budget : ℕ) (ws : List ℕ) (i : IsTerm ws) → simplify book table budget ws ≡ simplifyBy book table budget (i .tree)
   unfolding simplify
-  simplify-is budget ws i = rw (accepted, tree-good termLimits ws i, tree-of termLimits ws i)
+  simplify-is budget ws i = rw (good-accepted book accepted, tree-good termLimits ws i, tree-of termLimits ws i)
 
   simplify-words : (budget : ℕ) (v : Row) → IsBody v → simplify book table budget (words v) ≡ simplifyBy book table budget v
   simplify-words budget v i = simplify-is budget (words v) (row-term v i)

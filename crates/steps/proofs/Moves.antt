@@ -8,7 +8,7 @@ use lib.ListN.{length, take, drop, length-append}
 use Rattle.term.specs.declared.check.Checked.the-variants.{Good, Bad}
 use Rattle.term.specs.declared.answer.Answer.{Answer}
 use Rattle.term.specs.declared.answer.Answer.the-variants as answer
-use Rattle.term.specs.declared.renumber.Step.the-variants.{Done, Stuck}
+use Rattle.term.specs.declared.renumber.Passed.the-variants.{Done, Stuck}
 use Rattle.term.specs.Row.{Row, words}
 use Rattle.term.specs.Check.{IsTerm, check, termLimits}
 use Rattle.term.specs.Part.{partEnd}
@@ -21,12 +21,12 @@ use Rattle.fit.proofs.Laws.{within-limits}
 use Rattle.walk.specs.Walk.{walk, bookFits}
 use Rattle.steps.specs.Rewrite.{rewritten}
 use Rattle.steps.specs.Offset.{partAt, spliced}
-use Rattle.steps.specs.Area.{splicedWords, SpliceTold}
+use Rattle.steps.specs.told.Area.{splicedWords, SpliceTold}
 use Rattle.steps.specs.Step.{Sought, Nowhere, FoundAt, Broken, lowestOffset, Rests, Refused, wholeWithin, stepFound, step}
 use Rattle.steps.specs.declared.simplify.Lowest.the-variants as lowest
 use Rattle.steps.specs.declared.simplify.Moved.{Moved}
 use Rattle.steps.specs.declared.simplify.Moved.the-variants as moved
-use Rattle.steps.specs.Operations.{LowestTold, ReplaceTold, MoveTold}
+use Rattle.steps.specs.told.Operations.{LowestTold, ReplaceTold, MoveTold}
 use Rattle.steps.proofs.Shaped.{formed-shaped, limits-within}
 use Rattle.steps.proofs.Offsets.{spliced-words, part-end, splice-keeps}
 use Rattle.steps.proofs.Limits.{splice-nests, within-part, check-within, within-check}

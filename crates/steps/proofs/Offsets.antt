@@ -10,10 +10,10 @@ use lib.ListN.{length, take, drop, length-append}
 use lib.Seq.{take-at, drop-at}
 use borrow.Author.Tests.{ltb-true, ltb-false, lt-ltb, le-ltb}
 use Rattle.term.specs.Word.{Head, word}
-use Rattle.term.specs.Row.{Row, nothing, node, width, words, nesting, kinds, Formed, _⧺_, read}
-use Rattle.term.specs.Walk.{Stands}
+use Rattle.term.specs.Row.{Row, nothing, node, width, words, nesting, ranks, Formed, _⧺_, read}
+use Rattle.term.specs.told.Walk.{Stands}
 use Rattle.term.specs.Part.{partEnd}
-use Rattle.term.proofs.Laws.{words-nothing, words-node, words-join, width-nothing, width-node, width-join, nesting-node, nesting-nothing, kinds-node, kinds-nothing, kinds-join, formed-node, formed-nothing, node-formed, read-words, part-ends}
+use Rattle.term.proofs.Laws.{words-nothing, words-node, words-join, width-nothing, width-node, width-join, nesting-node, nesting-nothing, ranks-node, ranks-nothing, ranks-join, formed-node, formed-nothing, node-formed, read-words, part-ends}
 use Rattle.steps.specs.Offset.{partAt, spliced}
 use Rattle.steps.proofs.Shaped.{Shaped, shaped-join}
 
@@ -150,7 +150,7 @@ module _ (t : Row) (at : ℕ) (l : at < length (words t)) where
 pub record PartOf (t p : Row) : Type 0 where
   pub one : width p ≡ 1
   pub formed : Formed t → Formed p
-  pub few : kinds p ≤ kinds t
+  pub few : ranks p ≤ ranks t
   pub low : nesting p ≤ nesting t
 
 abbrev PartThere : Row → ℕ → Type 0
@@ -162,7 +162,7 @@ part-here h kids rest =
     (record {
       one = width-node h kids nothing ∙ ap suc width-nothing;
       formed = λ f. let n = formed-node h kids rest f in node-formed h kids nothing (record { table = n .table; full = n .full; below = n .below; beside = formed-nothing });
-      few = omega (arith, kinds-node h kids rest, kinds-node h kids nothing, kinds-nothing);
+      few = omega (arith, ranks-node h kids rest, ranks-node h kids nothing, ranks-nothing);
       low = omega (arith, nesting-node h kids rest, nesting-node h kids nothing, nesting-nothing);
     })
 
@@ -172,7 +172,7 @@ part-of-kids h kids rest at l p =
     (record {
       one = p .one;
       formed = λ f. p .formed (formed-node h kids rest f .below);
-      few = omega (arith, kinds-node h kids rest, p .few);
+      few = omega (arith, ranks-node h kids rest, p .few);
       low = omega (arith, nesting-node h kids rest, p .low);
     })
 
@@ -182,7 +182,7 @@ part-of-rest h kids rest at l p =
     (record {
       one = p .one;
       formed = λ f. p .formed (formed-node h kids rest f .beside);
-      few = omega (arith, kinds-node h kids rest, p .few);
+      few = omega (arith, ranks-node h kids rest, p .few);
       low = omega (arith, nesting-node h kids rest, p .low);
     })
 
@@ -197,19 +197,19 @@ module _ (t : Row) (at : ℕ) (l : at < length (words t)) (f : Formed t) where
       ap (read 1) (part-words t at l) ∙ ap (λ (n : ℕ). read n (words (partAt t at) ++ drop (endAt t at l) (words t))) (sym (p .one))
       ∙ read-words (partAt t at) (p .formed f) (drop (endAt t at l) (words t))
 
-  pub part-stands : kinds t ≤ 2 → nesting t ≤ 64 → Stands 64 1 (drop at (words t)) 0 (partAt t at) (drop (endAt t at l) (words t))
+  pub part-stands : ranks t ≤ 2 → nesting t ≤ 64 → Stands 64 1 (drop at (words t)) 0 (partAt t at) (drop (endAt t at l) (words t))
   part-stands k n =
       let p = part-of t at l in
       record { formed = p .formed f; few = omega (arith, k, p .few); low = omega (arith, n, p .low); wide = p .one; same = part-words t at l }
 
-  pub part-end : kinds t ≤ 2 → nesting t ≤ 64 → partEnd (drop at (words t)) ≡ length (words (partAt t at))
+  pub part-end : ranks t ≤ 2 → nesting t ≤ 64 → partEnd (drop at (words t)) ≡ length (words (partAt t at))
   part-end k n = part-ends 64 (drop at (words t)) (partAt t at) (drop (endAt t at l) (words t)) (part-stands k n)
 
 -- ---- what a term with a part replaced keeps
 pub record Spliced (t u v : Row) : Type 0 where
   pub wide : width u ≡ 1 → width v ≡ width t
   pub shaped : Shaped t → Shaped u → width u ≡ 1 → Shaped v
-  pub few : kinds v ≤ max (kinds t) (kinds u)
+  pub few : ranks v ≤ max (ranks t) (ranks u)
 
 abbrev SplicedThere : Row → ℕ → Type 0
 SplicedThere t at = (u : Row) → Spliced t u (spliced t at u)
@@ -221,7 +221,7 @@ splice-here h kids rest u =
     (record {
       wide = λ w. width-join u rest ∙ omega (arith, w, width-node h kids rest);
       shaped = λ s a w. shaped-join u rest a (s .3);
-      few = omega (arith, kinds-join u rest, kinds-node h kids rest);
+      few = omega (arith, ranks-join u rest, ranks-node h kids rest);
     })
 
 splice-kids : (h : Head) (kids rest : Row) (at : ℕ) → at < length (words kids) → SplicedThere kids at → SplicedThere (node h kids rest) (suc at)
@@ -232,7 +232,7 @@ splice-kids h kids rest at l p u =
     (record {
       wide = λ w. width-node h (spliced kids at u) rest ∙ sym (width-node h kids rest);
       shaped = λ s a w. (s .0, q .wide w ∙ s .1, q .shaped (s .2) a w, s .3);
-      few = omega (arith, kinds-node h (spliced kids at u) rest, kinds-node h kids rest, q .few);
+      few = omega (arith, ranks-node h (spliced kids at u) rest, ranks-node h kids rest, q .few);
     })
 
 splice-rest : (h : Head) (kids rest : Row) (at : ℕ) → length (words kids) ≤ at → SplicedThere rest (at - length (words kids)) → SplicedThere (node h kids rest) (suc at)
@@ -243,7 +243,7 @@ splice-rest h kids rest at l p u =
     (record {
       wide = λ w. width-node h kids (spliced rest (at - length (words kids)) u) ∙ ap suc (q .wide w) ∙ sym (width-node h kids rest);
       shaped = λ s a w. (s .0, s .1, s .2, q .shaped (s .3) a w);
-      few = omega (arith, kinds-node h kids (spliced rest (at - length (words kids)) u), kinds-node h kids rest, q .few);
+      few = omega (arith, ranks-node h kids (spliced rest (at - length (words kids)) u), ranks-node h kids rest, q .few);
     })
 
 pub splice-keeps : (t : Row) (at : ℕ) → at < length (words t) → (u : Row) → Spliced t u (spliced t at u)

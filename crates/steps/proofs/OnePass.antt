@@ -12,7 +12,7 @@ use Rattle.term.proofs.Laws.{inside-symbol, inside-abstraction, inside-pattern,
 use Rattle.fit.specs.Constraint.{tree}
 use Rattle.fit.proofs.Laws.{tree-nothing, tree-first, tree-later}
 use Rattle.steps.specs.Right.{shifted, single, replaced, inBody, writtenTree, write}
-use Rattle.steps.specs.Told.{RightRow, writtenIn, deeper, variableIn}
+use Rattle.steps.specs.told.Told.{RightRow, writtenIn, deeper, variableIn}
 use Rattle.steps.proofs.Replaced.{tree-before, none-wide, renumber-single, replaced-same, then-renumbered}
 use Rattle.steps.proofs.Writing.{write-nothing, write-node, shifted-is, in-own, in-inner, in-outside, IdCase, own, inner, outside, id-case}
 use Rattle.steps.proofs.Shaped.{width-written-tree, width-written}

@@ -13,7 +13,7 @@ use Rattle.term.proofs.Laws.{inside-pattern, count-pattern, renumber-symbol, re
 use Rattle.fit.specs.Constraint.{tree}
 use Rattle.fit.proofs.Laws.{tree-nothing, tree-first, tree-later}
 use Rattle.steps.specs.Right.{shifted, single, replaced, inBody, writtenTree, write}
-use Rattle.steps.specs.Told.{RightHead, RightRow}
+use Rattle.steps.specs.told.Told.{RightHead, RightRow}
 use Rattle.steps.proofs.Replaced.{renumber-more, renumber-single, replaced-same, then-renumbered, after-renumbered}
 use Rattle.steps.proofs.Writing.{write-nothing, write-node, shifted-is, in-own, in-inner, in-outside, IdCase, own, inner, outside, id-case}
 use Rattle.steps.proofs.Shaped.{width-written, width-renumber}

@@ -10,15 +10,15 @@ use lib.ListN.{length, getD, take, drop, replicate, length-append, length-replic
 use lib.Seq.{length-take-le, take-at, take-append-seam, drop-append-seam, drop-append-add, sets-eq}
 use borrow.Author.Tests.{leb-true}
 use Rattle.term.specs.declared.check.Checked.the-variants.{Good}
-use Rattle.term.specs.declared.renumber.Step.{Step}
-use Rattle.term.specs.declared.renumber.Step.the-variants as step
+use Rattle.term.specs.declared.renumber.Passed.{Passed}
+use Rattle.term.specs.declared.renumber.Passed.the-variants as step
 use Rattle.term.specs.Row.{Row, words, nesting}
-use Rattle.term.proofs.Laws.{never, and-left}
+use Rattle.term.proofs.Laws.{never, and-left, zero-at}
 use Rattle.book.specs.declared.book.Sides.{Sides}
 use Rattle.book.specs.declared.book.Found.the-variants as sides
 use Rattle.book.specs.Rule.{sideLimits}
 use Rattle.book.specs.Book.{Rule, checkBook, ruleAt}
-use Rattle.book.specs.Found.{sidesAt}
+use Rattle.book.specs.told.Found.{sidesAt}
 use Rattle.book.proofs.Laws.{sides-rule, sides-none, book-rule}
 use Rattle.fit.specs.Fit.{IsBody}
 use Rattle.fit.specs.Match.{treeOf, bodyList, lengthList}
@@ -27,15 +27,15 @@ use Rattle.fit.specs.Build.{startOf, wordsAt, largest, withinLimits}
 use Rattle.fit.proofs.Laws.{tree-of, within-limits-is, bodies-none, bodies-more, lengths-none, lengths-more, start-none, start-more, words-at-are}
 use Rattle.walk.specs.declared.with_book.BookMatch.the-variants as found
 use Rattle.walk.specs.Walk.{Walked, RuleFits, bookFits}
-use Rattle.walk.specs.State.{partFrom, Parted}
-use Rattle.walk.specs.WithBook.{bookWalk, BookWalked}
+use Rattle.walk.specs.told.State.{partFrom, Parted}
+use Rattle.walk.specs.told.WithBook.{bookWalk, BookWalked}
 use Rattle.walk.proofs.Laws.{FoundSound, walk-sound, fits-rule, parted-body, walked-none, walked-damaged, walked-rule}
 use Rattle.steps.specs.Right.{write}
 use Rattle.steps.specs.Rewrite.{rewritten}
-use Rattle.steps.specs.RightWalk.{BodiesStand, WrittenWithin, RightWritten}
+use Rattle.steps.specs.told.RightWalk.{BodiesStand, WrittenWithin, RightWritten}
 use Rattle.steps.specs.declared.rules.Rewrote.{Rewrote}
 use Rattle.steps.specs.declared.rules.Rewrote.the-variants as rewrote
-use Rattle.steps.specs.Operations.{Cleared, RuleWritten, RowWritten, RewriteTold}
+use Rattle.steps.specs.told.Operations.{Cleared, RuleWritten, RowWritten, RewriteTold}
 use Rattle.steps.proofs.RightRows.{parametersOf, accepted-right}
 
 -- ---- bodies one after the other, with zeros after them
@@ -92,10 +92,9 @@ module _ (b : ℕ → Row) (n : ℕ) (zs os : List ℕ) where
 pub prefix-cleared : (bodies part : List ℕ) (sum used : ℕ) → used ≡ sum → sum ≤ length bodies → part ≡ replicate (length (take used bodies)) 0 → part ++ drop used bodies ≡ replicate sum 0 ++ drop sum bodies
 prefix-cleared bodies part sum used e l p = rw (p, e, length-take-le sum bodies l)
 
-zero-at : (k i : ℕ) → _≡_ {A = ℕ} (getD {A = ℕ} (replicate k 0) i 0) 0
-zero-at zero i = refl
-zero-at (suc k) zero = refl
-zero-at (suc k) (suc i) = zero-at k i
+-- a cleared slice knows its length
+pub zeros-long : (out : List ℕ) (room : ℕ) → out ≡ replicate room 0 → length out ≡ room
+zeros-long out room e = ap length e ∙ length-replicate {A = ℕ} room 0
 
 length-past : (b : ℕ → Row) (os : List ℕ) (y n x : ℕ) → getD (lengthList b y n ++ os) (n + x) 0 ≡ getD os x 0
 length-past b os y zero x = let z : 0 + x ≡ x = omega arith in rw (z, lengths-none b y)
@@ -148,7 +147,7 @@ within-short t e = leb-true (length (words t)) 4096 (and-left (leb (length (word
 
 -- ---- the right side of a rule
 module _ (book : List ℕ) (number : ℕ) (bodies lengths out done : List ℕ) where
-  pub rule-absent : sidesAt book number ≡ sides.None → (r : Step) → RuleWritten book number bodies lengths out done r
+  pub rule-absent : sidesAt book number ≡ sides.None → (r : Passed) → RuleWritten book number bodies lengths out done r
   unfolding RuleWritten
   rule-absent e r rule q = let z : ruleAt book number ≡ none = sides-none book number e in never (cc)
 
@@ -156,7 +155,7 @@ module _ (book : List ℕ) (number : ℕ) (bodies lengths out done : List ℕ) w
     pub right-lies : (s .right ≤ s .end) × (s .end ≤ length book)
     right-lies = let q = sides-rule book number s e .2 in (q .right-next, q .within)
 
-    pub rule-written : (r : Step) → RightWritten (take (s .end - s .right) (drop (s .right) book)) bodies lengths out done r → RuleWritten book number bodies lengths out done r
+    pub rule-written : (r : Passed) → RightWritten (take (s .end - s .right) (drop (s .right) book)) bodies lengths out done r → RuleWritten book number bodies lengths out done r
     unfolding RuleWritten
     rule-written r w rule q =
         let a = sides-rule book number s e in
@@ -167,7 +166,7 @@ module _ (book : List ℕ) (number : ℕ) (bodies lengths out done : List ℕ) w
         some-same u v z = cc
 
 -- ---- a part
-abbrev pub rewroteBy : Step → Rewrote
+abbrev pub rewroteBy : Passed → Rewrote
 rewroteBy (step.Done n) = rewrote.Wrote n
 rewroteBy step.Stuck = rewrote.Over
 
@@ -181,7 +180,7 @@ module _ (book : List ℕ) where
   at-damaged w address bodies lengths out b = let q = walked-damaged w address bodies lengths b in (rw (q .0) refl, (q .1, q .2))
 
   module _ (accepted : checkBook book ≡ Good) (table ws : List ℕ) (parted : Parted ws) (some-words : 0 < length ws) where
-    wrote-within : (out done : List ℕ) → length out ≡ 4096 → (t : Row) (r : Step) → WrittenWithin out done t r → RowWritten t done (rewroteBy r)
+    wrote-within : (out done : List ℕ) → length out ≡ 4096 → (t : Row) (r : Passed) → WrittenWithin out done t r → RowWritten t done (rewroteBy r)
     wrote-within out done long t (step.Done n) w =
         let s = within-short t (w .0) in
         let z : 0 + length (words t) ≡ length (words t) = omega arith in
@@ -191,7 +190,7 @@ module _ (book : List ℕ) where
 
     rule-told : (f : Fitting) (n : ℕ) (rule : Rule) → ruleAt book (f .number) ≡ some rule → n ≡ rule .vars → ((x : ℕ) → x < n → IsBody (f .bodies x))
         → (bodies lengths : List ℕ) → bodies ≡ bodyList (f .bodies) 0 n ++ replicate (65536 - length (bodyList (f .bodies) 0 n)) 0 → lengths ≡ lengthList (f .bodies) 0 n ++ replicate (16 - n) 0
-        → (out done : List ℕ) → length out ≡ 4096 → (r : Step) → RuleWritten book (f .number) bodies lengths out done r → RowWritten (rewritten book f) done (rewroteBy r)
+        → (out done : List ℕ) → length out ≡ 4096 → (r : Passed) → RuleWritten book (f .number) bodies lengths out done r → RowWritten (rewritten book f) done (rewroteBy r)
     unfolding RuleWritten RightWritten rewritten
     rule-told f n rule e vars terms bodies lengths b l out done long r w =
         let facts = book-rule book (f .number) rule accepted e in
@@ -208,13 +207,13 @@ module _ (book : List ℕ) where
         rw e (wrote-within out done long (write (f .bodies) 0 (treeOf (rule .right))) r (w rule e (rule .vars) (parametersOf (rule .left)) (f .bodies) (treeOf (rule .right)) (a .0) (a .1) low (ap words t ∙ sym (right .same)) stand))
 
     found-told : (f : Fitting) (n : ℕ) → FoundSound (bookFits book) (RuleFits f n) → (bodies lengths : List ℕ) → bodies ≡ bodyList (f .bodies) 0 n ++ replicate (65536 - length (bodyList (f .bodies) 0 n)) 0
-        → lengths ≡ lengthList (f .bodies) 0 n ++ replicate (16 - n) 0 → (out done : List ℕ) → length out ≡ 4096 → (r : Step) → RuleWritten book (f .number) bodies lengths out done r → RowWritten (rewritten book f) done (rewroteBy r)
+        → lengths ≡ lengthList (f .bodies) 0 n ++ replicate (16 - n) 0 → (out done : List ℕ) → length out ≡ 4096 → (r : Passed) → RuleWritten book (f .number) bodies lengths out done r → RowWritten (rewritten book f) done (rewroteBy r)
     found-told f n fs bodies lengths b l out done long r w =
         let q = fits-rule book (f .number) (fs .0) (fs .2) in
         rule-told f n (q .0) (q .1) (sym (fs .1) ∙ q .2) (fs .3) bodies lengths b l out done long r w
 
     pub at-rule : (number : ℕ) (bodies lengths : List ℕ) → BookWalked (bookWalk book table ws) (found.Rule number) bodies lengths → (out done : List ℕ) → length out ≡ 4096
-        → (r : Step) → RuleWritten book number bodies lengths out done r → RewriteTold book (bookWalk book table ws) done (rewroteBy r)
+        → (r : Passed) → RuleWritten book number bodies lengths out done r → RewriteTold book (bookWalk book table ws) done (rewroteBy r)
     unfolding RewriteTold
     at-rule number bodies lengths k out done long r w =
         let q = walked-rule (bookWalk book table ws) number bodies lengths k in

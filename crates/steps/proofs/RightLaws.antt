@@ -4,20 +4,20 @@ use mathlib.Core.List.{List, _∷_, _++_}
 use Prim.Native.Nat.{ℕ, _+_, _-_, _≤_, _<_}
 use native.Mathlib.Omega.{arith}
 use lib.ListN.{length, getD, set}
-use Rattle.term.specs.declared.renumber.Step.{Step}
-use Rattle.term.specs.declared.renumber.Step.the-variants.{Done, Stuck}
+use Rattle.term.specs.declared.renumber.Passed.{Passed}
+use Rattle.term.specs.declared.renumber.Passed.the-variants.{Done, Stuck}
 use Rattle.term.specs.Word
 use Rattle.term.specs.Word.{Head, symbol, abstraction, variable, pattern, word, InTable, kindOf, countOf, identOf}
 use Rattle.term.specs.Row.{Row, nothing, node, width, words, _⧺_}
 use Rattle.term.specs.Renumber.{inside}
 use Rattle.term.proofs.Laws.{nesting-node, join-nothing, kind-word, ident-word, kind-symbol, kind-abstraction, kind-variable, kind-pattern, count-variable, ident-variable, ident-pattern, inside-symbol, inside-abstraction, inside-pattern, variable-id, term-keeps}
-use Rattle.fit.specs.BuildWalk.{RowBuilt}
+use Rattle.fit.specs.told.BuildWalk.{RowBuilt}
 use Rattle.fit.proofs.Laws.{row-none, row-first-over, row-then, row-full, row-node}
 use Rattle.steps.specs.declared.under.Under.{Under}
 use Rattle.steps.specs.Right.{single, replaced, write}
-use Rattle.steps.specs.Told.{RightHead, RightRow, writtenIn, deeper, variableIn}
-use Rattle.steps.specs.Under.{Around, entered, insideRight, idsIn}
-use Rattle.steps.specs.RightWalk.{nextTree, RightStands, RightTold, PatternTold}
+use Rattle.steps.specs.told.Told.{RightHead, RightRow, writtenIn, deeper, variableIn}
+use Rattle.steps.specs.told.Under.{Around, lowered, entered, insideRight, idsIn}
+use Rattle.steps.specs.told.RightWalk.{nextTree, RightStands, RightTold, PatternTold}
 use Rattle.steps.proofs.Replaced.{none-wide}
 use Rattle.steps.proofs.Shaped.{width-written}
 use Rattle.steps.proofs.OnePass.{in-nothing, in-split, in-symbol, in-abstraction, in-variable, in-pattern}
@@ -49,7 +49,7 @@ module _ (u : Under) (levels count : ℕ) (right : List ℕ) (at : ℕ) (bodies 
             (row-first-over levels out to (writtenIn b (u .depth) (idsIn u) (node (f .head) (f .children) nothing)) (writtenIn b (u .depth) (idsIn u) (f .rest)) mid mid
             (told vars k b (node (f .head) (f .children) nothing) (words (f .rest) ++ after) (f .alone) g l))
 
-    pub right-more : (mid : List ℕ) (c : ℕ) → RightTold u levels 1 right at bodies lengths out to mid (Done c) → (done : List ℕ) (r : Step)
+    pub right-more : (mid : List ℕ) (c : ℕ) → RightTold u levels 1 right at bodies lengths out to mid (Done c) → (done : List ℕ) (r : Passed)
         → RightTold u levels (count - 1) right (nextTree right at) bodies lengths mid c done r → RightTold u levels count right at bodies lengths out to done r
     unfolding RightTold
     right-more mid c told done r rest vars k b p after s g l = shown (right-first vars k (u .own) right count at z p after s)
@@ -61,7 +61,7 @@ module _ (u : Under) (levels count : ℕ) (right : List ℕ) (at : ℕ) (bodies 
             (row-then levels out to (writtenIn b (u .depth) (idsIn u) (node (f .head) (f .children) nothing)) (writtenIn b (u .depth) (idsIn u) (f .rest)) mid c x done r
             (rest vars k b (f .rest) after (f .beside) g (x .3)))
 
-    pub right-on : (mid : List ℕ) (c : ℕ) → RightTold u levels 1 right at bodies lengths out to mid (Done c) → (a : ℕ) → a ≡ nextTree right at → (done : List ℕ) (r : Step)
+    pub right-on : (mid : List ℕ) (c : ℕ) → RightTold u levels 1 right at bodies lengths out to mid (Done c) → (a : ℕ) → a ≡ nextTree right at → (done : List ℕ) (r : Passed)
         → RightTold u levels (count - 1) right a bodies lengths mid c done r → RightTold u levels count right at bodies lengths out to done r
     right-on mid c told a e done r rest = right-more mid c told done r (rw e at rest)
 
@@ -121,7 +121,7 @@ module _ (vars : ℕ) (k : ℕ → ℕ) (b : ℕ → Row) (u : Under) where
   inner-row : Around u → u .own < 16 → (h : Head) (kids : Row) → InTable h → (kindOf (word h) ≡ 2 → ⊥) → (kindOf (word h) ≡ 3 → ⊥) → InnerRow h kids
   inner-row a m (symbol i c) kids t v q =
       let z : kindOf (word (symbol i c)) ≡ 0 = kind-word (symbol i c) t ∙ kind-symbol i c in
-      let e : insideRight (word (symbol i c)) u ≡ u = inside-other-is u (word (symbol i c)) (λ o. omega (arith, o, z)) in
+      let e : insideRight (word (symbol i c)) u ≡ lowered u = inside-other-is u (word (symbol i c)) (λ o. omega (arith, o, z)) in
       record {
         own-is = ap (λ (v : Under). v .own) e ∙ sym (inside-symbol i c (u .own));
         writes =
@@ -131,7 +131,7 @@ module _ (vars : ℕ) (k : ℕ → ℕ) (b : ℕ → Row) (u : Under) where
       }
   inner-row a m abstraction kids t v q =
       let z : kindOf (word abstraction) ≡ 1 = kind-word abstraction t ∙ kind-abstraction in
-      let e : insideRight (word abstraction) u ≡ entered u = inside-abstraction-is u (word abstraction) z in
+      let e : insideRight (word abstraction) u ≡ entered (lowered u) = inside-abstraction-is u (word abstraction) z in
       let d : 1 + u .depth ≡ u .depth + 1 = omega arith in
       record {
         own-is = ap (λ (v : Under). v .own) e ∙ omega (arith, inside-abstraction (u .own));
@@ -154,7 +154,7 @@ module _ (u : Under) (levels : ℕ) (right : List ℕ) (at : ℕ) (bodies length
   right-low done e vars k b p after s g l = absurd (omega (arith, e, right-first vars k (u .own) right 1 at (λ z. omega (arith, z)) p after s .shallow))
 
   pub right-variable : kindOf (getD right at 0) ≡ 2 → (i : ℕ) → (1 ≤ identOf (getD right at 0) → identOf (getD right at 0) ≤ u .own → i ≡ getD (idsIn u) (identOf (getD right at 0) - 1) 0)
-      → (done : List ℕ) (r : Step) → RowBuilt levels out to done (single i) r → RightTold u levels 1 right at bodies lengths out to done r
+      → (done : List ℕ) (r : Passed) → RowBuilt levels out to done (single i) r → RightTold u levels 1 right at bodies lengths out to done r
   unfolding RightTold
   right-variable two i own-is done r wrote vars k b p after s g l = shown (one-tree vars k (u .own) right at p after s)
     where
@@ -166,7 +166,7 @@ module _ (u : Under) (levels : ℕ) (right : List ℕ) (at : ℕ) (bodies length
           let t : writtenIn b (u .depth) (idsIn u) p ≡ single i = ap (writtenIn b (u .depth) (idsIn u)) (x .is) ∙ v .writes ∙ ap (λ (j : ℕ). single (getD (idsIn u) (j - 1) 0)) e ∙ ap single (sym id) in
           rw t wrote
 
-  pub right-pattern : kindOf (getD right at 0) ≡ 3 → (done : List ℕ) (r : Step) → PatternTold u levels (getD right at 0) right (at + 1) bodies lengths out to done r
+  pub right-pattern : kindOf (getD right at 0) ≡ 3 → (done : List ℕ) (r : Passed) → PatternTold u levels (getD right at 0) right (at + 1) bodies lengths out to done r
       → RightTold u levels 1 right at bodies lengths out to done r
   unfolding RightTold PatternTold
   right-pattern three done r told vars k b p after s g l = shown (one-tree vars k (u .own) right at p after s)
@@ -204,7 +204,7 @@ module _ (u : Under) (levels : ℕ) (right : List ℕ) (at : ℕ) (bodies length
             let e = ap (writtenIn b (u .depth) (idsIn u)) (x .is) ∙ inner-is vars k b p after x .writes in
             rw e (row-full levels out to (x .head) (writtenIn b (insideRight (word (x .head)) u .depth) (idsIn (insideRight (word (x .head)) u)) (x .kids)) done h)
 
-    pub right-inner : 1 ≤ levels → to < 4096 → (done : List ℕ) (r : Step)
+    pub right-inner : 1 ≤ levels → to < 4096 → (done : List ℕ) (r : Passed)
         → RightTold (insideRight (getD right at 0) u) (levels - 1) (countOf (getD right at 0)) right (at + 1) bodies lengths (set out to (getD right at 0)) (to + 1) done r
         → RightTold u levels 1 right at bodies lengths out to done r
     unfolding RightTold

@@ -13,12 +13,12 @@ use Rattle.term.specs.Row.{Row, nothing, node, width, Formed}
 use Rattle.term.specs.Renumber.{inside}
 use Rattle.term.proofs.Laws.{and-left, and-right, formed-node, inside-symbol, inside-abstraction, inside-pattern, count-variable}
 use Rattle.book.specs.Rule.{counted, rightShape, sideLimits}
-use Rattle.book.specs.Occurs.{belowHead, belowVars, countsHead, countsAs}
+use Rattle.book.specs.told.Occurs.{belowHead, belowVars, countsHead, countsAs}
 use Rattle.book.specs.Book.{Rule, checkBook, ruleAt}
 use Rattle.book.proofs.Laws.{right-nothing, right-symbol, right-abstraction, right-variable, right-pattern, below-node, counts-node, book-rule}
 use Rattle.fit.specs.Match.{treeOf}
 use Rattle.fit.proofs.Laws.{tree-of}
-use Rattle.steps.specs.Told.{RightHead, RightRow}
+use Rattle.steps.specs.told.Told.{RightHead, RightRow}
 use Rattle.steps.proofs.Replaced.{none-wide}
 
 -- how many parameters a variable of a rule has

@@ -12,8 +12,8 @@ use Rattle.term.specs.Part.{past, partEnd}
 use Rattle.term.proofs.Laws.{words-node, width-nothing, width-node, nesting-nothing, nesting-node, count-word, past-words, part-past, part-short, inside-le}
 use Rattle.fit.specs.Constraint.{tree}
 use Rattle.fit.proofs.Laws.{tree-first, tree-later, further, words-tree, head-at}
-use Rattle.steps.specs.Told.{RightHead, RightRow}
-use Rattle.steps.specs.RightWalk.{nextTree, childAt, RightStands}
+use Rattle.steps.specs.told.Told.{RightHead, RightRow}
+use Rattle.steps.specs.told.RightWalk.{nextTree, childAt, RightStands}
 use Rattle.steps.proofs.Children.{right-formed}
 
 -- ---- offsets

@@ -1,27 +1,34 @@
--- What rewriting at the root answers and leaves, way by way: the book, the term, and then how the walk and the rule ended. Its promise settles both.
+-- What rewriting at the root answers and leaves, way by way: the book, the term, and then how the walk and the rule ended.
 use mathlib.Core.Path.{_≡_, sym, ap, _∙_}
 use mathlib.Core.List.{List}
 use Prim.Native.Nat.{ℕ, _≤_, _<_}
 use native.Mathlib.Omega.{arith}
 use lib.ListN.{length, take, replicate}
+use Rattle.term.specs.declared.check.Checked.{Checked}
 use Rattle.term.specs.declared.check.Checked.the-variants.{Good, Bad}
 use Rattle.term.specs.declared.answer.Answer.{Answer}
 use Rattle.term.specs.declared.answer.Answer.the-variants as answer
 use Rattle.term.specs.Row.{Row, nothing, node, width, words}
 use Rattle.term.specs.Check.{IsTerm, check, termLimits}
 use Rattle.term.specs.Part.{padded}
-use Rattle.term.proofs.Laws.{never, width-nothing, words-node, term-part, part-is, part-begins, good-tree}
-use Rattle.book.specs.Book.{checkBook}
+use Rattle.term.proofs.Laws.{never, width-nothing, words-node, term-part, part-is, part-begins}
+use Rattle.book.specs.declared.accept.Accepted.{Accepted}
+use Rattle.book.specs.declared.accept.Accepted.the-variants.{Sound, Refused}
+use Rattle.book.specs.Accept.{accept}
 use Rattle.fit.specs.Match.{treeOf}
-use Rattle.fit.specs.Build.{refused, built}
+use Rattle.fit.specs.Build.{Built, refused, built, buildAnswer, buildWords}
 use Rattle.fit.proofs.Laws.{tree-of, limited-is, refused-built, built-built}
 use Rattle.walk.specs.Walk.{Walked, NoneFits, RuleFits, DamagedAt}
-use Rattle.walk.specs.State.{partFrom, Parted}
-use Rattle.walk.specs.WithBook.{bookWalk}
+use Rattle.walk.specs.told.State.{partFrom, Parted}
+use Rattle.walk.specs.told.WithBook.{bookWalk}
 use Rattle.walk.proofs.Laws.{from-stands}
-use Rattle.steps.specs.Rewrite.{rewritten, walkedRoot, rewriteRoot, rootAnswer, rootWords}
+use Rattle.steps.specs.Rewrite.{rewritten, walkedRoot, rootWithTerm, rootWithBook, rewriteRoot}
 use Rattle.steps.specs.declared.rules.Rewrote.the-variants as rewrote
-use Rattle.steps.specs.Operations.{RewriteTold, givenAnswer, BuiltTold}
+use Rattle.steps.specs.told.Operations.{asked, RewriteTold, givenAnswer}
+use Rattle.steps.proofs.Asked.{sound-book, sound-term, is-term}
+
+abbrev pub BuiltTold : ℕ → Built → Answer → List ℕ → Type 0
+BuiltTold room b r out = (r ≡ buildAnswer room b) × (out ≡ buildWords room b)
 
 -- ---- what the term's words are
 some-words : (t : Row) → width t ≡ 1 → 0 < length (words t)
@@ -36,7 +43,7 @@ module _ (ws : List ℕ) (i : IsTerm ws) where
   term-some = omega (arith, ap length (i .same), some-words (i .tree) (i .one))
 
   pub whole-part : partFrom ws 0 ≡ treeOf ws
-  whole-part = let s = part-is ws (i .tree) (term-part ws i) in from-stands ws 0 (i .tree) (s .0) (s .1) ∙ sym (tree-of termLimits ws i)
+  whole-part = let s = part-is ws (i .tree) (term-part ws i) in from-stands ws 0 (i .tree) (s .0) (i .short) (s .1) ∙ sym (tree-of termLimits ws i)
 
 -- ---- a refusal leaves zeros, a row that was built its words
 refused-told : (room : ℕ) (a : Answer) (out : List ℕ) → out ≡ replicate room 0 → BuiltTold room (refused a) a out
@@ -82,25 +89,21 @@ module _ (book : List ℕ) (room : ℕ) (area out : List ℕ) where
 
 -- ---- the book and the term
 module _ (room : ℕ) (book table ws : List ℕ) where
-  module _ (out : List ℕ) (c : out ≡ replicate room 0) where
-    pub root-bad-book : (at : ℕ) → checkBook book ≡ Bad at → (answer.BadBook at ≡ rootAnswer room book table ws) × (out ≡ rootWords room book table ws)
-    unfolding rewriteRoot
-    root-bad-book at e = rw e (refused-told room (answer.BadBook at) out c)
-
-    pub root-bad-term : checkBook book ≡ Good → (at : ℕ) → check termLimits ws ≡ Bad at → (answer.BadTerm at ≡ rootAnswer room book table ws) × (out ≡ rootWords room book table ws)
-    unfolding rewriteRoot
-    root-bad-term g at e = rw (g, e) (refused-told room (answer.BadTerm at) out c)
-
-  pub root-walked : checkBook book ≡ Good → check termLimits ws ≡ Good → (r : Answer) (out : List ℕ) → BuiltTold room (walkedRoot book (bookWalk book table ws)) r out
-      → (r ≡ rootAnswer room book table ws) × (out ≡ rootWords room book table ws)
+  pub root-refused : (out : List ℕ) → out ≡ replicate room 0 → (a : Answer) → asked (accept book) (check termLimits ws) ≡ Refused a → BuiltTold room (rewriteRoot book table ws) a out
   unfolding rewriteRoot
-  root-walked g e r out t =
-      let p : partFrom ws 0 ≡ treeOf ws = whole-part ws (good-tree termLimits (omega arith) ws e) in
-      rw (g, e) (rw p at t)
+  root-refused out c a e = by-book (accept book) e
+    where
+      by-term : (t : Checked) → asked Sound t ≡ Refused a → BuiltTold room (rootWithTerm book table ws t) a out
+      by-term Good e = never (cc)
+      by-term (Bad at) e = let y : answer.BadTerm at ≡ a = cc in rw y (refused-told room a out c)
 
-  -- ---- the promise of rewriting at the root settles the answer and every lent word
-  abbrev pub RootPromised : Answer → List ℕ → Type 0
-  RootPromised r out = (r ≡ rootAnswer room book table ws) × (out ≡ rootWords room book table ws)
+      by-book : (b : Accepted) → asked b (check termLimits ws) ≡ Refused a → BuiltTold room (rootWithBook book table ws b) a out
+      by-book Sound e = by-term (check termLimits ws) e
+      by-book (Refused d) e = let y : d ≡ a = cc in rw y (refused-told room a out c)
 
-  pub root-settled : (r q : Answer) (out done : List ℕ) → RootPromised r out → RootPromised q done → (r ≡ q) × (out ≡ done)
-  root-settled r q out done x y = (x .0 ∙ sym (y .0), x .1 ∙ sym (y .1))
+  pub root-walked : asked (accept book) (check termLimits ws) ≡ Sound → (r : Answer) (out : List ℕ) → BuiltTold room (walkedRoot book (bookWalk book table ws)) r out
+      → BuiltTold room (rewriteRoot book table ws) r out
+  unfolding rewriteRoot
+  root-walked e r out t =
+      let p : partFrom ws 0 ≡ treeOf ws = whole-part ws (is-term book ws e) in
+      rw (sound-book book ws e, sound-term book ws e) (rw p at t)

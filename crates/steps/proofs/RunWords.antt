@@ -13,6 +13,8 @@ use Rattle.term.specs.Row.{Row, words}
 use Rattle.term.specs.Check.{IsTerm, check, termLimits}
 use Rattle.term.proofs.Laws.{good-tree, padded-fits}
 use Rattle.book.specs.Book.{checkBook}
+use Rattle.book.specs.Accept.{accept}
+use Rattle.book.proofs.Laws.{good-accepted, bad-refused}
 use Rattle.fit.proofs.Laws.{tree-of}
 use Rattle.steps.specs.Simplify.{Run, Stopped, Ended, runWithTerm, runWithBook, simplifyBy, simplify, simplifyAnswer, simplifyWords}
 use Rattle.steps.proofs.Steps.{EndsAs, rests, used, StopsAs, broken, over, RunIs, run-is, steps-term}
@@ -57,6 +59,6 @@ module _ (book table : List ℕ) where
           rw (tree-of termLimits ws i) (run-gives room large g budget ws i (simplifyBy book table budget (i .tree)) (run-is book table budget (i .tree)))
       by-term g (Bad at) e = stopped-gives room 0 _ (omega arith)
 
-      by-book : (c : Checked) → checkBook book ≡ c → RunGives room (runWithBook book table budget ws c)
-      by-book Good e = by-term e (check termLimits ws) refl
-      by-book (Bad at) e = stopped-gives room 0 _ (omega arith)
+      by-book : (c : Checked) → checkBook book ≡ c → RunGives room (runWithBook book table budget ws (accept book))
+      by-book Good e = rw (good-accepted book e) (by-term e (check termLimits ws) refl)
+      by-book (Bad at) e = rw (bad-refused book at e) (stopped-gives room 0 _ (omega arith))

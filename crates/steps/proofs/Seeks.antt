@@ -11,14 +11,14 @@ use Rattle.fit.specs.Fit.{IsBody}
 use Rattle.fit.specs.Match.{treeOf}
 use Rattle.fit.proofs.Laws.{tree-of}
 use Rattle.walk.specs.Walk.{Walked, NoneFits, RuleFits, DamagedAt, walk, bookFits}
-use Rattle.walk.specs.State.{partFrom}
-use Rattle.walk.specs.WithBook.{bookWalk}
+use Rattle.walk.specs.told.State.{partFrom}
+use Rattle.walk.specs.told.WithBook.{bookWalk}
 use Rattle.walk.proofs.Laws.{from-stands}
 use Rattle.steps.specs.Offset.{partAt}
 use Rattle.steps.specs.Step.{Sought, Nowhere, Broken, orLater, seekRule, lowestOffset}
 use Rattle.steps.specs.declared.rules.Rewrote.the-variants as rewrote
 use Rattle.steps.specs.declared.simplify.Lowest.the-variants as lowest
-use Rattle.steps.specs.Operations.{RewriteTold, LowestTold}
+use Rattle.steps.specs.told.Operations.{RewriteTold, LowestTold}
 use Rattle.steps.proofs.Offsets as offsets
 use Rattle.steps.proofs.Demand.{term-row}
 
@@ -36,7 +36,7 @@ module _ (ws : List ℕ) (i : IsTerm ws) where
       let b = tree-body in
       let k : at < length (words t) = rw tree-words l in
       let s = rw tree-words at (offsets.part-stands t at k (b .formed) (b .few) (b .low)) in
-      from-stands (drop at ws) 0 (partAt t at) _ s
+      from-stands (drop at ws) 0 (partAt t at) _ (omega (arith, length-drop at ws, i .short)) s
 
 -- ---- what one offset tells
 module _ (book : List ℕ) (at : ℕ) (later : Sought) (new : List ℕ) where

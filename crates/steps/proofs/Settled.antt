@@ -21,7 +21,7 @@ use Rattle.fit.specs.Lowest.{Fitting}
 use Rattle.fit.specs.Build.{withinLimits}
 use Rattle.fit.proofs.Laws.{WithinTerm, unique, accepted-good, LowestIs, LowestFits, lowest-none, lowest-some}
 use Rattle.steps.specs.Right.{replaced, inBody, writtenTree, write}
-use Rattle.steps.specs.Told.{RightHead, RightRow}
+use Rattle.steps.specs.told.Told.{RightHead, RightRow}
 use Rattle.steps.specs.Rewrite.{rightIn, rewritten}
 use Rattle.steps.specs.Offset.{partAt, spliced}
 use Rattle.steps.specs.Step.{Nowhere, FoundAt}

@@ -7,15 +7,15 @@ use native.Mathlib.Omega.{arith}
 use lib.Dec.{leb}
 use lib.ListN.{length}
 use borrow.Author.Tests.{leb-true}
-use Rattle.term.specs.Word.{Head, symbol, abstraction, variable, pattern, kind, count, InTable}
-use Rattle.term.specs.Row.{Row, nothing, node, width, words, nesting, kinds, Formed, _⧺_}
+use Rattle.term.specs.Word.{Head, symbol, abstraction, variable, pattern, rank, count, InTable}
+use Rattle.term.specs.Row.{Row, nothing, node, width, words, nesting, ranks, Formed, _⧺_}
 use Rattle.term.specs.Renumber.{idTerm, inside, renumberHead, renumber}
-use Rattle.term.proofs.Laws.{and-left, and-right, kind-symbol, kind-abstraction, count-variable, join-nothing-left, join-node, width-join, width-node, width-nothing, kinds-join, kinds-node, kinds-nothing, kind-variable, formed-nothing, formed-node, node-formed, renumber-nothing, renumber-node, renumber-symbol, renumber-abstraction, renumber-variable, renumber-pattern, term-own, term-outside, term-keeps, variable-id, id-variable}
+use Rattle.term.proofs.Laws.{and-left, and-right, rank-symbol, rank-abstraction, count-variable, join-nothing-left, join-node, width-join, width-node, width-nothing, ranks-join, ranks-node, ranks-nothing, rank-variable, formed-nothing, formed-node, node-formed, renumber-nothing, renumber-node, renumber-symbol, renumber-abstraction, renumber-variable, renumber-pattern, term-own, term-outside, term-keeps, variable-id, id-variable}
 use Rattle.fit.specs.Constraint.{tree}
 use Rattle.fit.specs.Build.{idIn, largest, withinLimits}
 use Rattle.fit.proofs.Laws.{tree-nothing, tree-first, tree-later, largest-node, within-limits-is}
 use Rattle.steps.specs.Right.{shifted, single, replacedTree, replaced, inBody, writtenTree, write}
-use Rattle.steps.specs.Told.{RightHead, RightRow}
+use Rattle.steps.specs.told.Told.{RightHead, RightRow}
 use Rattle.steps.proofs.Replaced.{replaced-nothing, replaced-node}
 use Rattle.steps.proofs.Writing.{write-nothing, write-node, shifted-is, in-own, in-inner, in-outside, IdCase, own, inner, outside, id-case}
 
@@ -163,44 +163,44 @@ module _ (m : ℕ → ℕ → Row) (w : (e i : ℕ) → width (m e i) ≡ 1) whe
       (shaped-replaced-tree e h (replaced m (inside h e) kids) (p .0) (width-replaced m w (inside h e) kids ∙ p .1) (s e) (shaped-replaced s (inside h e) kids (p .2)))
       (shaped-replaced s e rest (p .3)))
 
--- ---- kinds
-few-shifted : (e : ℕ) (t : Row) → kinds t ≤ 2 → kinds (shifted e t) ≤ 2
+-- ---- ranks
+few-shifted : (e : ℕ) (t : Row) → ranks t ≤ 2 → ranks (shifted e t) ≤ 2
 unfolding shifted
-few-shifted e t h = omega (arith, term-keeps e [] t .kind)
+few-shifted e t h = omega (arith, term-keeps e [] t .rank)
 
-few-tree : (r : Row) (j : ℕ) → kinds r ≤ 2 → kinds (tree r j) ≤ 2
+few-tree : (r : Row) (j : ℕ) → ranks r ≤ 2 → ranks (tree r j) ≤ 2
 few-tree nothing j h = rw (tree-nothing j) h
-few-tree (node g kids rest) zero h = rw (tree-first g kids rest) (omega (arith, kinds-node g kids rest, kinds-node g kids nothing, kinds-nothing))
-few-tree (node g kids rest) (suc j) h = rw (tree-later g kids rest j) (few-tree rest j (omega (arith, kinds-node g kids rest)))
+few-tree (node g kids rest) zero h = rw (tree-first g kids rest) (omega (arith, ranks-node g kids rest, ranks-node g kids nothing, ranks-nothing))
+few-tree (node g kids rest) (suc j) h = rw (tree-later g kids rest j) (few-tree rest j (omega (arith, ranks-node g kids rest)))
 
-few-single : (i : ℕ) → kinds (single i) ≤ 2
-few-single i = omega (arith, kinds-node (variable i) nothing nothing, kinds-nothing, kind-variable i)
+few-single : (i : ℕ) → ranks (single i) ≤ 2
+few-single i = omega (arith, ranks-node (variable i) nothing nothing, ranks-nothing, rank-variable i)
 
-pub few-in : (d : ℕ) (children : Row) → kinds children ≤ 2 → (e i : ℕ) → kinds (inBody d children e i) ≤ 2
+pub few-in : (d : ℕ) (children : Row) → ranks children ≤ 2 → (e i : ℕ) → ranks (inBody d children e i) ≤ 2
 few-in d children k e i = go (id-case e (width children) i)
   where
-    go : IdCase e (width children) i → kinds (inBody d children e i) ≤ 2
+    go : IdCase e (width children) i → ranks (inBody d children e i) ≤ 2
     go (own h) = rw (in-own d children e i h) (few-single i)
     go (inner h l) = rw (in-inner d children e i h l) (few-shifted e (tree children (i - e - 1)) (few-tree children (i - e - 1) k))
     go (outside h) = rw (in-outside d children e i h) (few-single (i - width children + d))
 
-few-node : (h : Head) (kids : Row) → kind h ≤ 2 → kinds kids ≤ 2 → kinds (node h kids nothing) ≤ 2
-few-node h kids a b = omega (arith, kinds-node h kids nothing, kinds-nothing)
+few-node : (h : Head) (kids : Row) → rank h ≤ 2 → ranks kids ≤ 2 → ranks (node h kids nothing) ≤ 2
+few-node h kids a b = omega (arith, ranks-node h kids nothing, ranks-nothing)
 
-few-replaced-tree : (m : ℕ → Row) → ((i : ℕ) → kinds (m i) ≤ 2) → (h : Head) (kids : Row) → kind h ≤ 2 → kinds kids ≤ 2 → kinds (replacedTree m h kids) ≤ 2
+few-replaced-tree : (m : ℕ → Row) → ((i : ℕ) → ranks (m i) ≤ 2) → (h : Head) (kids : Row) → rank h ≤ 2 → ranks kids ≤ 2 → ranks (replacedTree m h kids) ≤ 2
 few-replaced-tree m f (symbol i c) kids a b = few-node (symbol i c) kids a b
 few-replaced-tree m f abstraction kids a b = few-node abstraction kids a b
 few-replaced-tree m f (variable i) kids a b = f i
 few-replaced-tree m f (pattern x c) kids a b = few-node (pattern x c) kids a b
 
-pub few-replaced : (m : ℕ → ℕ → Row) → ((e i : ℕ) → kinds (m e i) ≤ 2) → (e : ℕ) (t : Row) → kinds t ≤ 2 → kinds (replaced m e t) ≤ 2
+pub few-replaced : (m : ℕ → ℕ → Row) → ((e i : ℕ) → ranks (m e i) ≤ 2) → (e : ℕ) (t : Row) → ranks t ≤ 2 → ranks (replaced m e t) ≤ 2
 few-replaced m f e nothing k = rw (replaced-nothing m e) k
 few-replaced m f e (node h kids rest) k =
-    let n = kinds-node h kids rest in
+    let n = ranks-node h kids rest in
     rw (replaced-node m e h kids rest)
     (omega (
       arith,
-      kinds-join (replacedTree (m e) h (replaced m (inside h e) kids)) (replaced m e rest),
+      ranks-join (replacedTree (m e) h (replaced m (inside h e) kids)) (replaced m e rest),
       few-replaced-tree (m e) (f e) h (replaced m (inside h e) kids) (omega (arith, n)) (few-replaced m f (inside h e) kids (omega (arith, n))),
       few-replaced m f e rest (omega (arith, n)),
     ))
@@ -222,21 +222,21 @@ module _ (vars : ℕ) (b : ℕ → Row) (one : (x : ℕ) → x < vars → width 
       ∙ width-join (writtenTree b d h (write b (inside h d) kids)) (write b d rest)
       ∙ omega (arith, width-written-tree d h (write b (inside h d) kids) (r .2), width-written d rest (r .4), width-node h kids rest)
 
-  few-written-tree : ((x : ℕ) → x < vars → kinds (b x) ≤ 2) → (d : ℕ) (h : Head) (children : Row) → RightHead vars k d h → kinds children ≤ 2 → kinds (writtenTree b d h children) ≤ 2
-  few-written-tree f d (symbol i c) children r s = few-node (symbol i c) children (omega (arith, kind-symbol i c)) s
-  few-written-tree f d abstraction children r s = few-node abstraction children (omega (arith, kind-abstraction)) s
-  few-written-tree f d (variable i) children r s = few-node (variable i) children (omega (arith, kind-variable i)) s
+  few-written-tree : ((x : ℕ) → x < vars → ranks (b x) ≤ 2) → (d : ℕ) (h : Head) (children : Row) → RightHead vars k d h → ranks children ≤ 2 → ranks (writtenTree b d h children) ≤ 2
+  few-written-tree f d (symbol i c) children r s = few-node (symbol i c) children (omega (arith, rank-symbol i c)) s
+  few-written-tree f d abstraction children r s = few-node abstraction children (omega (arith, rank-abstraction)) s
+  few-written-tree f d (variable i) children r s = few-node (variable i) children (omega (arith, rank-variable i)) s
   few-written-tree f d (pattern x c) children r s = few-replaced (inBody d children) (few-in d children s) 0 (b x) (f x (r .0))
 
   -- no pattern variable is left
-  pub few-written : ((x : ℕ) → x < vars → kinds (b x) ≤ 2) → (d : ℕ) (p : Row) → RightRow vars k d p → kinds (write b d p) ≤ 2
+  pub few-written : ((x : ℕ) → x < vars → ranks (b x) ≤ 2) → (d : ℕ) (p : Row) → RightRow vars k d p → ranks (write b d p) ≤ 2
   unfolding RightRow
-  few-written f d nothing r = rw (write-nothing b d) (omega (arith, kinds-nothing))
+  few-written f d nothing r = rw (write-nothing b d) (omega (arith, ranks-nothing))
   few-written f d (node h kids rest) r =
       rw (write-node b d h kids rest)
       (omega (
         arith,
-        kinds-join (writtenTree b d h (write b (inside h d) kids)) (write b d rest),
+        ranks-join (writtenTree b d h (write b (inside h d) kids)) (write b d rest),
         few-written-tree f d h (write b (inside h d) kids) (r .2) (few-written f (inside h d) kids (r .3)),
         few-written f d rest (r .4),
       ))

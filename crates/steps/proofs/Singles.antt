@@ -4,11 +4,11 @@ use mathlib.Core.List.{List}
 use Prim.Native.Nat.{ℕ, _+_, _-_, _*_, _≤_, _<_}
 use native.Mathlib.Omega.{arith}
 use lib.ListN.{set}
-use Rattle.term.specs.declared.renumber.Step.the-variants.{Done, Stuck}
+use Rattle.term.specs.declared.renumber.Passed.the-variants.{Done, Stuck}
 use Rattle.term.specs.Word.{variable, word}
 use Rattle.term.specs.Row.{nothing}
 use Rattle.term.proofs.Laws.{width-nothing, nesting-node, count-variable, formed-node, variable-id, id-variable, word-variable}
-use Rattle.fit.specs.BuildWalk.{RowBuilt}
+use Rattle.fit.specs.told.BuildWalk.{RowBuilt}
 use Rattle.fit.proofs.Laws.{row-none, row-full, row-node}
 use Rattle.steps.specs.Right.{single}
 

@@ -12,7 +12,7 @@ use Rattle.term.specs.declared.check.Checked.the-variants.{Good}
 use Rattle.term.specs.declared.answer.Answer.{Answer}
 use Rattle.term.specs.declared.answer.Answer.the-variants.{Done, BudgetUsed, Damaged, Over}
 use Rattle.term.specs.Word.{pick}
-use Rattle.term.specs.Row.{Row, width, words, kinds}
+use Rattle.term.specs.Row.{Row, width, words, ranks}
 use Rattle.book.specs.Book.{Rule, checkBook, ruleAt}
 use Rattle.fit.specs.Fit.{IsBody}
 use Rattle.fit.specs.Lowest.{Fitting}
@@ -88,7 +88,7 @@ module _ (book : List ℕ) (accepted : checkBook book ≡ Good) (table : List �
   -- ---- what a rule that is found writes is one term, but for its limits
   pub record Wrote (u : Row) : Type 0 where
     pub one : width u ≡ 1
-    pub few : kinds u ≤ 2
+    pub few : ranks u ≤ 2
     pub shaped : Shaped u
 
   pub rule-writes : (f : Fitting) (rule : Rule) → ruleAt book (f .number) ≡ some rule → ((x : ℕ) → x < rule .vars → IsBody (f .bodies x)) → Wrote (rewritten book f)

@@ -14,7 +14,7 @@ use Rattle.term.specs.Row.{Row, nothing, node, width, Formed, _⧺_}
 use Rattle.term.specs.Renumber.{GoodList, Listed, idTerm, inside, renumber, toTerm, toBody}
 use Rattle.term.proofs.Laws.{never, and-left, and-right, inside-symbol, inside-abstraction, inside-pattern, count-variable, join-nothing, width-node, width-nothing, formed-node, everywhere, term-is, term-own, term-inner, term-outside, term-body, listed-range, good-true}
 use Rattle.book.specs.Rule.{idBefore, idsOf, listFor, leftShape, sideLimits}
-use Rattle.book.specs.Occurs.{belowHead, belowVars}
+use Rattle.book.specs.told.Occurs.{belowHead, belowVars}
 use Rattle.book.specs.Book.{Rule, checkBook, ruleAt}
 use Rattle.book.proofs.Laws.{ids-nothing, ids-node, left-symbol, left-abstraction, left-variable, left-pattern, below-node, RuleFacts, book-rule}
 use Rattle.fit.specs.Left.{idsOr, leftOf}

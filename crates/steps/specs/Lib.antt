@@ -1,10 +1,6 @@
 pub mod Right
-pub mod Told
 pub mod Rewrite
 pub mod Offset
 pub mod Step
 pub mod Simplify
-pub mod Under
-pub mod RightWalk
-pub mod Area
-pub mod Operations
+pub mod told

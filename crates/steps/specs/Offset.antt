@@ -16,9 +16,3 @@ spliced nothing at new = nothing
 spliced (node h kids rest) zero new = new ⧺ rest
 spliced (node h kids rest) (suc at) new =
     pick (ltb at (length (words kids))) (node h (spliced kids at new) rest) (node h kids (spliced rest (at - length (words kids)) new))
-
--- how many nodes stand above the part at an offset
-unfoldable pub levelsAbove : Row → ℕ → ℕ
-levelsAbove nothing at = 0
-levelsAbove (node h kids rest) zero = 0
-levelsAbove (node h kids rest) (suc at) = pick (ltb at (length (words kids))) (suc (levelsAbove kids at)) (levelsAbove rest (at - length (words kids)))

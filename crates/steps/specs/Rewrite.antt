@@ -5,10 +5,14 @@ use mathlib.Core.Option.{Option, none, some}
 use Rattle.term.specs.declared.check.Checked.{Checked}
 use Rattle.term.specs.declared.check.Checked.the-variants.{Good, Bad}
 use Rattle.term.specs.declared.answer.Answer.{Answer}
-use Rattle.term.specs.declared.answer.Answer.the-variants.{NoFit, BadTerm, BadBook, Damaged}
+use Rattle.term.specs.declared.answer.Answer.the-variants.{NoFit, BadTerm, Damaged}
+use Rattle.term.specs.Answer.{Answered, answered}
 use Rattle.term.specs.Row.{Row, nothing}
 use Rattle.term.specs.Check.{check, termLimits}
-use Rattle.book.specs.Book.{Rule, checkBook, ruleAt}
+use Rattle.book.specs.declared.accept.Accepted.{Accepted}
+use Rattle.book.specs.declared.accept.Accepted.the-variants.{Sound, Refused}
+use Rattle.book.specs.Accept.{accept}
+use Rattle.book.specs.Book.{Rule, ruleAt}
 use Rattle.fit.specs.Match.{treeOf}
 use Rattle.fit.specs.Lowest.{Fitting}
 use Rattle.fit.specs.Build.{Built, refused, limited, buildAnswer, buildWords}
@@ -34,15 +38,26 @@ abbrev pub rootWithTerm : List ℕ → List ℕ → List ℕ → Checked → Bui
 rootWithTerm book table ws Good = walkedRoot book (walk (bookFits book) table (treeOf ws))
 rootWithTerm book table ws (Bad at) = refused (BadTerm at)
 
-abbrev pub rootWithBook : List ℕ → List ℕ → List ℕ → Checked → Built
-rootWithBook book table ws Good = rootWithTerm book table ws (check termLimits ws)
-rootWithBook book table ws (Bad at) = refused (BadBook at)
+abbrev pub rootWithBook : List ℕ → List ℕ → List ℕ → Accepted → Built
+rootWithBook book table ws Sound = rootWithTerm book table ws (check termLimits ws)
+rootWithBook book table ws (Refused a) = refused a
 
 unfoldable pub rewriteRoot : List ℕ → List ℕ → List ℕ → Built
-rewriteRoot book table ws = rootWithBook book table ws (checkBook book)
+rewriteRoot book table ws = rootWithBook book table ws (accept book)
 
 abbrev pub rootAnswer : ℕ → List ℕ → List ℕ → List ℕ → Answer
 rootAnswer room book table ws = buildAnswer room (rewriteRoot book table ws)
 
 abbrev pub rootWords : ℕ → List ℕ → List ℕ → List ℕ → List ℕ
 rootWords room book table ws = buildWords room (rewriteRoot book table ws)
+
+-- ---- all that comes back
+pub record RewriteRootOutcome : Type 0 where
+  pub said : Answered
+  pub out : List ℕ
+
+abbrev pub rewriteRootCame : Answered → List ℕ → RewriteRootOutcome
+rewriteRootCame said out = record { said = said; out = out }
+
+unfoldable pub rewriteRootGives : (book tree term : List ℕ) (room : ℕ) → RewriteRootOutcome
+rewriteRootGives book tree term room = rewriteRootCame (answered (rootAnswer room book tree term)) (rootWords room book tree term)

@@ -6,12 +6,15 @@ use lib.ListN.{length, replicate}
 use Rattle.term.specs.declared.check.Checked.{Checked}
 use Rattle.term.specs.declared.check.Checked.the-variants.{Good, Bad}
 use Rattle.term.specs.declared.answer.Answer.{Answer}
-use Rattle.term.specs.declared.answer.Answer.the-variants.{Done, BudgetUsed, BadTerm, BadBook, Short, Damaged}
+use Rattle.term.specs.declared.answer.Answer.the-variants.{Done, BudgetUsed, BadTerm, Short, Damaged}
+use Rattle.term.specs.Answer.{Answered, answered}
 use Rattle.term.specs.Word.{pick}
 use Rattle.term.specs.Row.{Row, words}
 use Rattle.term.specs.Check.{check, termLimits}
 use Rattle.term.specs.Part.{padded}
-use Rattle.book.specs.Book.{checkBook}
+use Rattle.book.specs.declared.accept.Accepted.{Accepted}
+use Rattle.book.specs.declared.accept.Accepted.the-variants as accepted
+use Rattle.book.specs.Accept.{accept}
 use Rattle.fit.specs.Match.{treeOf}
 use Rattle.steps.specs.Step.{Sought, Nowhere, FoundAt, Broken, lowestOffset, Stepped, Rests, Becomes, Refused, step}
 
@@ -46,12 +49,12 @@ abbrev pub runWithTerm : List ℕ → List ℕ → ℕ → List ℕ → Checked 
 runWithTerm book table budget ws Good = simplifyBy book table budget (treeOf ws)
 runWithTerm book table budget ws (Bad at) = Stopped 0 (BadTerm at)
 
-abbrev pub runWithBook : List ℕ → List ℕ → ℕ → List ℕ → Checked → Run
-runWithBook book table budget ws Good = runWithTerm book table budget ws (check termLimits ws)
-runWithBook book table budget ws (Bad at) = Stopped 0 (BadBook at)
+abbrev pub runWithBook : List ℕ → List ℕ → ℕ → List ℕ → Accepted → Run
+runWithBook book table budget ws accepted.Sound = runWithTerm book table budget ws (check termLimits ws)
+runWithBook book table budget ws (accepted.Refused a) = Stopped 0 a
 
 unfoldable pub simplify : List ℕ → List ℕ → ℕ → List ℕ → Run
-simplify book table budget ws = runWithBook book table budget ws (checkBook book)
+simplify book table budget ws = runWithBook book table budget ws (accept book)
 
 unfoldable pub simplifyAnswer : ℕ → Run → Answer
 simplifyAnswer room (Stopped n a) = a
@@ -66,3 +69,19 @@ simplifyWords room (Ended n a t) = padded room (words t)
 unfoldable pub simplifySteps : Run → ℕ
 simplifySteps (Stopped n a) = n
 simplifySteps (Ended n a t) = n
+
+-- ---- all that comes back
+pub record SimplifyOutcome : Type 0 where
+  pub said : Answered
+  pub steps : ℕ
+  pub out : List ℕ
+
+abbrev pub simplifyCame : Answered → ℕ → List ℕ → SimplifyOutcome
+simplifyCame said steps out = record { said = said; steps = steps; out = out }
+
+-- of a run, where there is so much room
+abbrev pub runCame : ℕ → Run → SimplifyOutcome
+runCame room run = simplifyCame (answered (simplifyAnswer room run)) (simplifySteps run) (simplifyWords room run)
+
+unfoldable pub simplifyGives : (book tree term : List ℕ) (budget room : ℕ) → SimplifyOutcome
+simplifyGives book tree term budget room = runCame room (simplify book tree budget term)

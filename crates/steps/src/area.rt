@@ -4,12 +4,12 @@ ghost use Prim.Native.Nat.{_+_, _≤_, _<_};
 ghost use lib.ListN.{length, take, replicate};
 ghost use lib.Seq.{paste};
 ghost use Rattle.term.specs.Part.{padded};
-ghost use Rattle.steps.specs.Area.{SpliceTold};
-ghost use Rattle.steps.specs.Operations.{givenAnswer};
+ghost use Rattle.steps.specs.told.Area.{SpliceTold};
+ghost use Rattle.steps.specs.told.Operations.{givenAnswer};
 use term::answer::Answer;
 use term::check::MOST_WORDS;
 use term::part::part_end;
-use term::renumber::Step;
+use term::renumber::Passed;
 
 // Copies all words of a slice to an offset of another.
 pub fn copy(from: &[u32], to: &mut [u32], at: usize)
@@ -37,7 +37,7 @@ pub fn give(answer: Answer, words: &[u32], out: &mut [u32]) -> Answer
 
 // Puts the first n words of `new` for the part at an offset of the area's term, which has `size` words; what stands behind the part moves along.
 // Done with the size of the new term, Stuck where it is over the area.
-pub fn splice(area: &mut [u32], size: usize, at: usize, new: &mut [u32], n: usize) -> Step
+pub fn splice(area: &mut [u32], size: usize, at: usize, new: &mut [u32], n: usize) -> Passed
     requires { ⌜ (length (now area) ≡ 4096) × (length (now new) ≡ 4096) × (size ≤ 4096) × (at < size) × (n ≤ 4096) ⌝ }
     ensures { λ r. ⌜ SpliceTold (take size (now (area .entry))) at (take n (now (new .entry))) (now (area .exit)) r ⌝ }
 {
@@ -45,9 +45,9 @@ pub fn splice(area: &mut [u32], size: usize, at: usize, new: &mut [u32], n: usiz
     let rest = size - end;
     let behind = n + rest;
     if MOST_WORDS - at < behind {
-        return Step::Stuck;
+        return Passed::Stuck;
     }
     copy(&area[end..size], new, n);
     copy(&new[..behind], area, at);
-    Step::Done(at + behind)
+    Passed::Done(at + behind)
 }

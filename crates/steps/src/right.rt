@@ -3,30 +3,26 @@
 ghost use mathlib.Core.Path.{_≡_};
 ghost use Prim.Native.Nat.{_+_, _≤_};
 ghost use lib.ListN.{length};
-ghost use Rattle.fit.specs.BuildWalk.{RowBuilt};
+ghost use Rattle.fit.specs.told.BuildWalk.{RowBuilt};
 ghost use Rattle.steps.specs.Right.{single};
-ghost use Rattle.steps.specs.Under.{Around};
-ghost use Rattle.steps.specs.RightWalk.{RightWritten, nextTree, childAt, RightTold, PatternTold, VariableTold, BodyTold};
+ghost use Rattle.steps.specs.told.Under.{Around};
+ghost use Rattle.steps.specs.told.RightWalk.{RightWritten, nextTree, childAt, RightTold, PatternTold, VariableTold, BodyTold};
 use crate::under::MOST_OWN;
 use crate::under::Under;
+use crate::under::Within;
+use book::limits::MOST_VARS_LONG;
 use fit::build::start_of;
+use term::check::MOST_LEVELS;
 use term::check::MOST_WORDS;
 use term::lent::put;
 use term::part::part_end;
 use term::renumber::NO_ID;
-use term::renumber::Step;
-use term::renumber::inside_word;
-use term::word::COUNT;
-use term::word::COUNTS;
+use term::renumber::Passed;
 use term::word::KIND;
 use term::word::PATTERN;
 use term::word::VARIABLE;
-
-// A rule has at most so many variables.
-const MOST_VARS: usize = 16;
-
-// A term nests at most so deep.
-const LEVELS: u32 = 64;
+use term::word::count_of;
+use term::word::id_of;
 
 // No variable has an id from here on.
 const IDS: u32 = 65536;
@@ -60,69 +56,63 @@ fn child_at(right: &[u32], at: usize, j: u32) -> usize
 }
 
 // Writes a variable, where it has an id.
-fn write_variable(i: u32, levels: u32, out: &mut [u32], to: usize) -> Step
+fn write_variable(i: u32, levels: u32, out: &mut [u32], to: usize) -> Passed
     ensures { λ r. ⌜ RowBuilt levels (now (out .entry)) to (now (out .exit)) (single i) r ⌝ }
 {
     if levels == 0 {
-        return Step::Stuck;
+        return Passed::Stuck;
     }
     if MOST_WORDS <= to {
-        return Step::Stuck;
+        return Passed::Stuck;
     }
     if i == NO_ID {
-        return Step::Stuck;
+        return Passed::Stuck;
     }
     if IDS <= i {
-        return Step::Stuck;
+        return Passed::Stuck;
     }
     put(out, to, VARIABLE * KIND + i);
-    Step::Done(to + 1)
+    Passed::Done(to + 1)
 }
 
-// Writes what a variable of a body stands for, under e abstractions of the body: itself, a child of the pattern variable, or what is outside.
+// Writes what a variable of a body stands for: itself, a child of the pattern variable, or what is outside.
 fn body_variable(
-    under: Under,
-    e: u32,
-    count: u32,
-    levels: u32,
+    within: Within,
     i: u32,
     right: &[u32],
-    at: usize,
     bodies: &[u32],
     lengths: &[u32],
     out: &mut [u32],
     to: usize,
-) -> Step
-    requires { ⌜ (under .depth + e + levels ≤ 64) × Around under × (at ≤ length (now right)) × (length (now lengths) ≡ 16) × (i ≤ 65535) ⌝ }
-    ensures { λ r. ⌜ VariableTold under e count levels i (now (right .entry)) at (now (bodies .entry)) (now (lengths .entry)) (now (out .entry)) to (now (out .exit)) r ⌝ }
+) -> Passed
+    requires { ⌜ (within .under .depth + within .e + within .under .levels ≤ 64) × Around (within .under) × (within .at ≤ length (now right)) × (length (now lengths) ≡ 16) × (i ≤ 65535) ⌝ }
+    ensures { λ r. ⌜ VariableTold (within .under) (within .e) (within .count) (within .under .levels) i (now (right .entry)) (within .at) (now (bodies .entry)) (now (lengths .entry)) (now (out .entry)) to (now (out .exit)) r ⌝ }
 {
+    let under = within.under;
+    let e = within.e;
     if i <= e {
-        return write_variable(i, levels, out, to);
+        return write_variable(i, under.levels, out, to);
     }
-    if count < i - e {
-        return write_variable(i - count + under.depth, levels, out, to);
+    if within.count < i - e {
+        return write_variable(i - within.count + under.depth, under.levels, out, to);
     }
-    let child = child_at(right, at, i - e - 1);
+    let child = child_at(right, within.at, i - e - 1);
     let inner = under.deeper(e);
-    write_tree(inner, levels, right, child, bodies, lengths, out, to)
+    write_tree(inner, right, child, bodies, lengths, out, to)
 }
 
 // Writes one tree of a body.
 fn body_tree(
-    under: Under,
-    e: u32,
-    count: u32,
-    levels: u32,
+    within: Within,
     right: &[u32],
-    at: usize,
     bodies: &[u32],
     from: usize,
     lengths: &[u32],
     out: &mut [u32],
     to: usize,
 ) -> Both
-    requires { ⌜ (under .depth + e + levels ≤ 64) × Around under × (at ≤ length (now right)) × (length (now lengths) ≡ 16) ⌝ }
-    ensures { λ r. ⌜ BodyTold under e count levels 1 (now (right .entry)) at (now (bodies .entry)) from (now (lengths .entry)) (now (out .entry)) to (now (out .exit)) r ⌝ }
+    requires { ⌜ (within .under .depth + within .e + within .under .levels ≤ 64) × Around (within .under) × (within .at ≤ length (now right)) × (length (now lengths) ≡ 16) ⌝ }
+    ensures { λ r. ⌜ BodyTold (within .under) (within .e) (within .count) (within .under .levels) 1 (now (right .entry)) (within .at) (now (bodies .entry)) from (now (lengths .entry)) (now (out .entry)) to (now (out .exit)) r ⌝ }
 {
     if bodies.len() <= from {
         return Both::Stuck;
@@ -130,84 +120,43 @@ fn body_tree(
     let w = bodies[from];
     let next = from + 1;
     if w / KIND == VARIABLE {
-        let i = w % COUNT;
-        let Step::Done(end) = body_variable(
-            under,
-            e,
-            count,
-            levels,
-            i,
-            right,
-            at,
-            bodies,
-            lengths,
-            out,
-            to,
-        ) else {
+        let Passed::Done(end) = body_variable(within, id_of(w), right, bodies, lengths, out, to)
+        else {
             return Both::Stuck;
         };
         return Both::Done(next, end);
     }
-    if levels == 0 {
+    if within.under.levels == 0 {
         return Both::Stuck;
     }
     if MOST_WORDS <= to {
         return Both::Stuck;
     }
     put(out, to, w);
-    let inner = inside_word(w, e);
+    let inner = within.inside(w);
     let then = to + 1;
-    body_row(
-        under,
-        inner,
-        count,
-        levels - 1,
-        w / COUNT % COUNTS,
-        right,
-        at,
-        bodies,
-        next,
-        lengths,
-        out,
-        then,
-    )
+    body_row(inner, count_of(w), right, bodies, next, lengths, out, then)
 }
 
 // Writes so many trees of a body.
 fn body_row(
-    under: Under,
-    e: u32,
-    count: u32,
-    levels: u32,
+    within: Within,
     trees: u32,
     right: &[u32],
-    at: usize,
     bodies: &[u32],
     from: usize,
     lengths: &[u32],
     out: &mut [u32],
     to: usize,
 ) -> Both
-    requires { ⌜ (under .depth + e + levels ≤ 64) × Around under × (at ≤ length (now right)) × (length (now lengths) ≡ 16) ⌝ }
-    ensures { λ r. ⌜ BodyTold under e count levels trees (now (right .entry)) at (now (bodies .entry)) from (now (lengths .entry)) (now (out .entry)) to (now (out .exit)) r ⌝ }
+    requires { ⌜ (within .under .depth + within .e + within .under .levels ≤ 64) × Around (within .under) × (within .at ≤ length (now right)) × (length (now lengths) ≡ 16) ⌝ }
+    ensures { λ r. ⌜ BodyTold (within .under) (within .e) (within .count) (within .under .levels) trees (now (right .entry)) (within .at) (now (bodies .entry)) from (now (lengths .entry)) (now (out .entry)) to (now (out .exit)) r ⌝ }
 {
     let mut a = from;
     let mut c = to;
     let mut more = trees;
     while more != 0 {
-        match body_tree(
-            under,
-            e,
-            count,
-            levels,
-            right,
-            at,
-            bodies,
-            a,
-            lengths,
-            out,
-            c,
-        ) {
+        match body_tree(within, right, bodies, a, lengths, out, c) {
             Both::Done(p, q) => {
                 a = p;
                 c = q;
@@ -224,57 +173,45 @@ fn body_row(
 // Writes one tree of a right side.
 fn write_tree(
     under: Under,
-    levels: u32,
     right: &[u32],
     at: usize,
     bodies: &[u32],
     lengths: &[u32],
     out: &mut [u32],
     to: usize,
-) -> Step
-    requires { ⌜ (under .depth + levels ≤ 64) × Around under × (length (now lengths) ≡ 16) ⌝ }
-    ensures { λ r. ⌜ RightTold under levels 1 (now (right .entry)) at (now (bodies .entry)) (now (lengths .entry)) (now (out .entry)) to (now (out .exit)) r ⌝ }
+) -> Passed
+    requires { ⌜ (under .depth + under .levels ≤ 64) × Around under × (length (now lengths) ≡ 16) ⌝ }
+    ensures { λ r. ⌜ RightTold under (under .levels) 1 (now (right .entry)) at (now (bodies .entry)) (now (lengths .entry)) (now (out .entry)) to (now (out .exit)) r ⌝ }
 {
     if right.len() <= at {
-        return Step::Stuck;
+        return Passed::Stuck;
     }
     if MOST_OWN <= under.own {
-        return Step::Stuck;
+        return Passed::Stuck;
     }
     let w = right[at];
     let next = at + 1;
     if w / KIND == VARIABLE {
-        return write_variable(under.own_id(w % COUNT), levels, out, to);
+        return write_variable(under.own_id(id_of(w)), under.levels, out, to);
     }
     if w / KIND == PATTERN {
-        return write_pattern(under, levels, w, right, next, bodies, lengths, out, to);
+        return write_pattern(under, w, right, next, bodies, lengths, out, to);
     }
-    if levels == 0 {
-        return Step::Stuck;
+    if under.levels == 0 {
+        return Passed::Stuck;
     }
     if MOST_WORDS <= to {
-        return Step::Stuck;
+        return Passed::Stuck;
     }
     put(out, to, w);
     let inner = under.inside(w);
     let then = to + 1;
-    write_row(
-        inner,
-        levels - 1,
-        w / COUNT % COUNTS,
-        right,
-        next,
-        bodies,
-        lengths,
-        out,
-        then,
-    )
+    write_row(inner, count_of(w), right, next, bodies, lengths, out, then)
 }
 
 // Writes so many trees of a right side.
 fn write_row(
     under: Under,
-    levels: u32,
     count: u32,
     right: &[u32],
     at: usize,
@@ -282,32 +219,31 @@ fn write_row(
     lengths: &[u32],
     out: &mut [u32],
     to: usize,
-) -> Step
-    requires { ⌜ (under .depth + levels ≤ 64) × Around under × (at ≤ length (now right)) × (length (now lengths) ≡ 16) ⌝ }
-    ensures { λ r. ⌜ RightTold under levels count (now (right .entry)) at (now (bodies .entry)) (now (lengths .entry)) (now (out .entry)) to (now (out .exit)) r ⌝ }
+) -> Passed
+    requires { ⌜ (under .depth + under .levels ≤ 64) × Around under × (at ≤ length (now right)) × (length (now lengths) ≡ 16) ⌝ }
+    ensures { λ r. ⌜ RightTold under (under .levels) count (now (right .entry)) at (now (bodies .entry)) (now (lengths .entry)) (now (out .entry)) to (now (out .exit)) r ⌝ }
 {
     let mut a = at;
     let mut c = to;
     let mut more = count;
     while more != 0 {
-        match write_tree(under, levels, right, a, bodies, lengths, out, c) {
-            Step::Done(q) => {
+        match write_tree(under, right, a, bodies, lengths, out, c) {
+            Passed::Done(q) => {
                 a = next_tree(right, a);
                 c = q;
                 more = more - 1;
             }
-            Step::Stuck => {
-                return Step::Stuck;
+            Passed::Stuck => {
+                return Passed::Stuck;
             }
         }
     }
-    Step::Done(c)
+    Passed::Done(c)
 }
 
 // Writes the body of a pattern variable, whose children stand at `at`.
 fn write_pattern(
     under: Under,
-    levels: u32,
     w: u32,
     right: &[u32],
     at: usize,
@@ -315,39 +251,32 @@ fn write_pattern(
     lengths: &[u32],
     out: &mut [u32],
     to: usize,
-) -> Step
-    requires { ⌜ (under .depth + levels ≤ 64) × Around under × (at ≤ length (now right)) × (length (now lengths) ≡ 16) ⌝ }
-    ensures { λ r. ⌜ PatternTold under levels w (now (right .entry)) at (now (bodies .entry)) (now (lengths .entry)) (now (out .entry)) to (now (out .exit)) r ⌝ }
+) -> Passed
+    requires { ⌜ (under .depth + under .levels ≤ 64) × Around under × (at ≤ length (now right)) × (length (now lengths) ≡ 16) ⌝ }
+    ensures { λ r. ⌜ PatternTold under (under .levels) w (now (right .entry)) at (now (bodies .entry)) (now (lengths .entry)) (now (out .entry)) to (now (out .exit)) r ⌝ }
 {
-    let x = (w % COUNT) as usize;
-    if MOST_VARS <= x {
-        return Step::Stuck;
+    let x = id_of(w) as usize;
+    if MOST_VARS_LONG <= x {
+        return Passed::Stuck;
     }
-    let count = w / COUNT % COUNTS;
     let from = start_of(lengths, x);
-    match body_tree(
-        under,
-        0,
-        count,
-        levels,
-        right,
-        at,
-        bodies,
-        from,
-        lengths,
-        out,
-        to,
-    ) {
-        Both::Done(_, end) => Step::Done(end),
-        Both::Stuck => Step::Stuck,
+    let within = Within {
+        under: under,
+        e: 0,
+        count: count_of(w),
+        at: at,
+    };
+    match body_tree(within, right, bodies, from, lengths, out, to) {
+        Both::Done(_, end) => Passed::Done(end),
+        Both::Stuck => Passed::Stuck,
     }
 }
 
 // Writes a right side with the bodies of its variables, one list in variable order with sixteen lengths beside it.
-pub fn write_right(right: &[u32], bodies: &[u32], lengths: &[u32], out: &mut [u32]) -> Step
+pub fn write_right(right: &[u32], bodies: &[u32], lengths: &[u32], out: &mut [u32]) -> Passed
     requires { ⌜ length (now lengths) ≡ 16 ⌝ }
     ensures { λ r. ⌜ RightWritten (now (right .entry)) (now (bodies .entry)) (now (lengths .entry)) (now (out .entry)) (now (out .exit)) r ⌝ }
 {
-    let root = Under::root();
-    write_tree(root, LEVELS, right, 0, bodies, lengths, out, 0)
+    let root = Under::root(MOST_LEVELS);
+    write_tree(root, right, 0, bodies, lengths, out, 0)
 }

@@ -1,18 +1,25 @@
-// A rule at a part: the walk with the book finds it, and its right side is written from its bodies.
+// What is asked of a book and a term first; and a rule at a part: the walk with the book finds it, and its right side is written from its bodies.
 ghost use mathlib.Core.Path.{_≡_};
 ghost use mathlib.Core.List.{_++_};
 ghost use Prim.Native.Nat.{_≤_, _<_};
 ghost use lib.ListN.{length, drop, replicate};
+ghost use Rattle.term.specs.Check.{check, termLimits};
+ghost use Rattle.book.specs.Accept.{accept};
 ghost use Rattle.fit.specs.Build.{startOf};
-ghost use Rattle.walk.specs.State.{Parted};
-ghost use Rattle.walk.specs.WithBook.{bookWalk};
-ghost use Rattle.steps.specs.Operations.{Accepted, Cleared, RuleWritten, RewriteTold};
+ghost use Rattle.walk.specs.told.State.{Parted};
+ghost use Rattle.walk.specs.told.WithBook.{bookWalk};
+ghost use Rattle.steps.specs.told.Operations.{GoodBook, Cleared, asked, RuleWritten, RewriteTold};
 use crate::right::write_right;
+use book::accept::Accepted;
+use book::accept::accept_book;
 use book::book::Found;
 use book::book::find_rule;
 use fit::build::start_of;
+use term::answer::Answer;
+use term::check::Checked;
+use term::check::check_term;
 use term::lent::clear;
-use term::renumber::Step;
+use term::renumber::Passed;
 use walk::with_book::BookMatch;
 use walk::with_book::walk_book;
 
@@ -29,13 +36,26 @@ pub enum Rewrote {
     Over,
 }
 
+// Asks of the book, and then of the term.
+pub fn ask(book: &[u32], term: &[u32]) -> Accepted
+    ensures { λ r. ⌜ r ≡ asked (accept (now (book .entry))) (check termLimits (now (term .entry))) ⌝ }
+{
+    if let Accepted::Refused(answer) = accept_book(book) {
+        return Accepted::Refused(answer);
+    }
+    match check_term(term) {
+        Checked::Good => Accepted::Sound,
+        Checked::Bad(at) => Accepted::Refused(Answer::BadTerm(at)),
+    }
+}
+
 // Writes the right side of a rule from its bodies.
-fn write_rule(book: &[u32], number: u32, bodies: &[u32], lengths: &[u32], out: &mut [u32]) -> Step
+fn write_rule(book: &[u32], number: u32, bodies: &[u32], lengths: &[u32], out: &mut [u32]) -> Passed
     requires { ⌜ length (now lengths) ≡ 16 ⌝ }
     ensures { λ r. ⌜ RuleWritten (now (book .entry)) number (now (bodies .entry)) (now (lengths .entry)) (now (out .entry)) (now (out .exit)) r ⌝ }
 {
     let Found::Rule(sides) = find_rule(book, number) else {
-        return Step::Stuck;
+        return Passed::Stuck;
     };
     let right = sides.right;
     let end = sides.end;
@@ -63,7 +83,7 @@ pub fn rewrite_at(
     lengths: &mut [u32],
     out: &mut [u32],
 ) -> Rewrote
-    requires { ⌜ Accepted (now book) × Parted (now part) × (0 < length (now part)) × Cleared (now bodies) (now lengths) × (length (now out) ≡ 4096) ⌝ }
+    requires { ⌜ GoodBook (now book) × Parted (now part) × (0 < length (now part)) × Cleared (now bodies) (now lengths) × (length (now out) ≡ 4096) ⌝ }
     ensures { λ r. ⌜ RewriteTold (now (book .entry)) (bookWalk (now (book .entry)) (now (tree .entry)) (now (part .entry))) (now (out .exit)) r
         × Cleared (now (bodies .exit)) (now (lengths .exit)) ⌝ }
 {
@@ -74,8 +94,8 @@ pub fn rewrite_at(
             let wrote = write_rule(book, number, bodies, lengths, out);
             clear_used(bodies, lengths);
             match wrote {
-                Step::Done(n) => Rewrote::Wrote(n),
-                Step::Stuck => Rewrote::Over,
+                Passed::Done(n) => Rewrote::Wrote(n),
+                Passed::Stuck => Rewrote::Over,
             }
         }
     }

@@ -20,9 +20,11 @@ loop-holds c = let s = c .args in (omega arith, refl, paste-zero (s .to .now) (s
 
 loop-again : tie.Need-loop-again Inv-loop μ-loop
 loop-again c =
-    let s = c .before .before .before .args in
-    let e = copied-more (s .to .now) (s .at) (s .from .now) (c .before .before .loop .j) (c .before .before .loop .to) (c .before .before .before .pre) (c .before .loop-test .taken) (c .before .before .loop .inv .2) in
-    (omega (arith, c .before .loop-test .taken), copied-long (s .to .now) (s .at) (s .from .now) (c .before .before .loop .j + 1) _ (c .before .before .before .pre) (omega (arith, c .before .loop-test .taken)) e, e)
+    let start = c .before .before .before in
+    let turn = c .before .before in
+    let s = start .args in
+    let e = copied-more (s .to .now) (s .at) (s .from .now) (turn .loop .j) (turn .loop .to) (start .pre) (c .before .loop-test .taken) (turn .loop .inv .2) in
+    (omega (arith, c .before .loop-test .taken), copied-long (s .to .now) (s .at) (s .from .now) (turn .loop .j + 1) _ (start .pre) (omega (arith, c .before .loop-test .taken)) e, e)
 
 slice-write-to : tie.Need-slice-write-to Inv-loop μ-loop
 slice-write-to c = omega (arith, c .before .loop-test .taken, c .before .before .loop .inv .1, c .before .before .before .pre)

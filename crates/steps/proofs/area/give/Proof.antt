@@ -7,13 +7,17 @@ use Rattle.steps.proofs.area.give.Statement.{statement}
 use Rattle.steps.proofs.area.give.Tie as tie
 
 returns : tie.Need-returns
-returns c = let s = c .before .before .before .args in given-short (length (s .out .now)) (s .words .now) _ (s .answer) (c .before .before .before .pre) (c .if1 .taken)
+returns c =
+    let start = c .before .before .before in
+    let s = start .args in given-short (length (s .out .now)) (s .words .now) _ (s .answer) (start .pre) (c .if1 .taken)
 
 copy-requires : tie.Need-copy-requires
 copy-requires c κs = omega (arith, c .before .if1 .left)
 
 returns-2 : tie.Need-returns-2
-returns-2 c = let s = c .before .before .before .before .before .before .before .args in given-all (length (s .out .now)) (s .words .now) _ (s .answer) (s .out .now) (c .before .before .before .before .before .before .before .pre) (omega (arith, c .before .before .before .before .if1 .left)) (c .before .before .copy .ensures)
+returns-2 c =
+    let start = c .before .before .before .before .before .before .before in
+    let s = start .args in given-all (length (s .out .now)) (s .words .now) _ (s .answer) (s .out .now) (start .pre) (omega (arith, c .before .before .before .before .if1 .left)) (c .before .before .copy .ensures)
 
 pub give-spec : {M : Type 1} → statement M
 give-spec =

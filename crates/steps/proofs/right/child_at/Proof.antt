@@ -3,7 +3,7 @@ use native.Mathlib.Omega.{arith}
 use mathlib.Core.Path.{_≡_, refl, sym, _∙_}
 use Prim.Native.Nat.{_≤_}
 use lib.ListN.{length}
-use Rattle.steps.specs.RightWalk.{childAt}
+use Rattle.steps.specs.told.RightWalk.{childAt}
 use Rattle.steps.proofs.RightTrees.{next-step, child-step, child-end}
 use Rattle.steps.proofs.right.child_at.Statement.{statement}
 use Rattle.steps.proofs.right.child_at.Tie as tie

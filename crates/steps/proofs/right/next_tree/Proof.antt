@@ -11,8 +11,9 @@ use Rattle.steps.proofs.right.next_tree.Tie as tie
 
 add-result : tie.Need-add-result
 add-result c =
-    let s = c .before .before .before .args in
-    omega (arith, c .part-end .ensures ∙ ap partEnd (suffix (s .at) (s .right .now)), part-short (drop (s .at) (s .right .now)), length-drop (s .at) (s .right .now), c .before .before .before .pre)
+    let start = c .before .before .before in
+    let s = start .args in
+    omega (arith, c .part-end .ensures ∙ ap partEnd (suffix (s .at) (s .right .now)), part-short (drop (s .at) (s .right .now)), length-drop (s .at) (s .right .now), start .pre)
 
 returns : tie.Need-returns
 returns c = let s = c .before .before .before .args in ap (λ (n : ℕ). s .at + n) (c .part-end .ensures ∙ ap partEnd (suffix (s .at) (s .right .now)))

@@ -2,15 +2,16 @@
 use borrow.Author.Needs.{needs}
 use mathlib.Core.Path.{ap, _∙_}
 use lib.ListN.{length}
-use Rattle.term.specs.declared.renumber.Step.the-variants as step
-use Rattle.walk.specs.WithBook.{bookWalk}
-use Rattle.steps.proofs.Rewrites.{used-cleared, at-none, at-damaged, at-rule}
-use Rattle.steps.proofs.Runs.{zeros-long}
+use Rattle.term.specs.declared.renumber.Passed.the-variants as step
+use Rattle.walk.specs.told.WithBook.{bookWalk}
+use Rattle.steps.proofs.Rewrites.{zeros-long, used-cleared, at-none, at-damaged, at-rule}
 use Rattle.steps.proofs.rules.rewrite_at.Statement.{statement}
 use Rattle.steps.proofs.rules.rewrite_at.Tie as tie
 
 walk-book-requires : tie.Need-walk-book-requires
-walk-book-requires c κs = (c .before .before .before .before .before .before .before .before .pre .1, c .before .before .before .before .before .before .before .before .pre .2, c .before .before .before .before .before .before .before .before .pre .3 .0, c .before .before .before .before .before .before .before .before .pre .3 .1)
+walk-book-requires c κs =
+    let start = c .before .before .before .before .before .before .before .before in
+    (start .pre .1, start .pre .2, start .pre .3 .0, start .pre .3 .1)
 
 returns : tie.Need-returns
 returns c = let s = c .before .before .before .before .before .before .before .before .before .before .before .before .before .before .before .args in at-none (s .book .now) (bookWalk (s .book .now) (s .tree .now) (s .part .now)) _ _ _ (rw (c .enum-told .given .1) at (c .before .before .before .before .before .before .walk-book .ensures))
@@ -22,17 +23,28 @@ write-rule-requires : tie.Need-write-rule-requires
 write-rule-requires c κs = c .before .before .before .before .before .before .before .before .before .before .walk-book .kept .1 .1 .1 .1 .0 ∙ ap length (c .before .before .before .before .before .before .before .before .before .before .before .before .before .before .before .before .before .before .before .pre .3 .1)
 
 clear-used-requires : tie.Need-clear-used-requires
-clear-used-requires c κs = let s = c .before .before .before .before .before .before .before .before .before .before .before .before .before .before .before .before .before .before .before .before .before .before .before .before .args in (c .before .before .before .before .before .before .before .before .before .before .before .before .before .before .before .walk-book .kept .1 .1 .1 .1 .0 ∙ ap length (c .before .before .before .before .before .before .before .before .before .before .before .before .before .before .before .before .before .before .before .before .before .before .before .before .pre .3 .1), used-cleared (bookWalk (s .book .now) (s .tree .now) (s .part .now)) _ _ _ (rw (c .before .before .before .before .before .before .before .before .before .number .given .1) at (c .before .before .before .before .before .before .before .before .before .before .before .before .before .before .before .walk-book .ensures)) (c .before .before .before .before .before .before .before .before .before .before .before .before .before .before .before .walk-book .kept .1 .1 .1 .0 ∙ zeros-long _ 65536 (c .before .before .before .before .before .before .before .before .before .before .before .before .before .before .before .before .before .before .before .before .before .before .before .before .pre .3 .0)) (c .before .before .before .before .before .before .before .before .before .before .before .before .before .before .before .walk-book .kept .1 .1 .1 .1 .0 ∙ ap length (c .before .before .before .before .before .before .before .before .before .before .before .before .before .before .before .before .before .before .before .before .before .before .before .before .pre .3 .1)) .0)
+clear-used-requires c κs =
+    let start = c .before .before .before .before .before .before .before .before .before .before .before .before .before .before .before .before .before .before .before .before .before .before .before .before in
+    let far = c .before .before .before .before .before .before .before .before .before .before .before .before .before .before .before in
+    let s = start .args in (far .walk-book .kept .1 .1 .1 .1 .0 ∙ ap length (start .pre .3 .1), used-cleared (bookWalk (s .book .now) (s .tree .now) (s .part .now)) _ _ _ (rw (c .before .before .before .before .before .before .before .before .before .number .given .1) at (far .walk-book .ensures)) (far .walk-book .kept .1 .1 .1 .0 ∙ zeros-long _ 65536 (start .pre .3 .0)) (far .walk-book .kept .1 .1 .1 .1 .0 ∙ ap length (start .pre .3 .1)) .0)
 
 returns-3 : tie.Need-returns-3
 returns-3 c =
-    let s = c .before .before .before .before .before .before .before .before .before .before .before .before .before .before .before .before .before .before .before .before .before .before .before .before .before .before .before .before .before .before .before .before .args in
-    (at-rule (s .book .now) (c .before .before .before .before .before .before .before .before .before .before .before .before .before .before .before .before .before .before .before .before .before .before .before .before .before .before .before .before .before .before .before .before .pre .0) (s .tree .now) (s .part .now) (c .before .before .before .before .before .before .before .before .before .before .before .before .before .before .before .before .before .before .before .before .before .before .before .before .before .before .before .before .before .before .before .before .pre .1) (c .before .before .before .before .before .before .before .before .before .before .before .before .before .before .before .before .before .before .before .before .before .before .before .before .before .before .before .before .before .before .before .before .pre .2) _ _ _ (rw (c .before .before .before .before .before .before .before .before .before .before .before .before .before .before .before .before .before .number .given .1) at (c .before .before .before .before .before .before .before .before .before .before .before .before .before .before .before .before .before .before .before .before .before .before .before .walk-book .ensures)) (s .out .now) _ (c .before .before .before .before .before .before .before .before .before .before .before .before .before .before .before .before .before .before .before .before .before .before .before .before .before .before .before .before .before .before .before .before .pre .4) (step.Done _) (rw (c .before .wrote .given .1) at (c .before .before .before .before .before .before .before .before .before .before .before .before .write-rule .ensures)), (c .before .before .before .before .before .before .before .clear-used .ensures .0 ∙ used-cleared (bookWalk (s .book .now) (s .tree .now) (s .part .now)) _ _ _ (rw (c .before .before .before .before .before .before .before .before .before .before .before .before .before .before .before .before .before .number .given .1) at (c .before .before .before .before .before .before .before .before .before .before .before .before .before .before .before .before .before .before .before .before .before .before .before .walk-book .ensures)) (c .before .before .before .before .before .before .before .before .before .before .before .before .before .before .before .before .before .before .before .before .before .before .before .walk-book .kept .1 .1 .1 .0 ∙ zeros-long _ 65536 (c .before .before .before .before .before .before .before .before .before .before .before .before .before .before .before .before .before .before .before .before .before .before .before .before .before .before .before .before .before .before .before .before .pre .3 .0)) (c .before .before .before .before .before .before .before .before .before .before .before .before .before .before .before .before .before .before .before .before .before .before .before .walk-book .kept .1 .1 .1 .1 .0 ∙ ap length (c .before .before .before .before .before .before .before .before .before .before .before .before .before .before .before .before .before .before .before .before .before .before .before .before .before .before .before .before .before .before .before .before .pre .3 .1)) .1, c .before .before .before .before .before .before .before .clear-used .ensures .1))
+    let start = c .before .before .before .before .before .before .before .before .before .before .before .before .before .before .before .before .before .before .before .before .before .before .before .before .before .before .before .before .before .before .before .before in
+    let far = c .before .before .before .before .before .before .before .before .before .before .before .before .before .before .before .before .before .before .before .before .before .before .before in
+    let far2 = c .before .before .before .before .before .before .before .before .before .before .before .before .before .before .before .before .before in
+    let far3 = c .before .before .before .before .before .before .before in
+    let s = start .args in
+    (at-rule (s .book .now) (start .pre .0) (s .tree .now) (s .part .now) (start .pre .1) (start .pre .2) _ _ _ (rw (far2 .number .given .1) at (far .walk-book .ensures)) (s .out .now) _ (start .pre .4) (step.Done _) (rw (c .before .wrote .given .1) at (c .before .before .before .before .before .before .before .before .before .before .before .before .write-rule .ensures)), (far3 .clear-used .ensures .0 ∙ used-cleared (bookWalk (s .book .now) (s .tree .now) (s .part .now)) _ _ _ (rw (far2 .number .given .1) at (far .walk-book .ensures)) (far .walk-book .kept .1 .1 .1 .0 ∙ zeros-long _ 65536 (start .pre .3 .0)) (far .walk-book .kept .1 .1 .1 .1 .0 ∙ ap length (start .pre .3 .1)) .1, far3 .clear-used .ensures .1))
 
 returns-4 : tie.Need-returns-4
 returns-4 c =
-    let s = c .before .before .before .before .before .before .before .before .before .before .before .before .before .before .before .before .before .before .before .before .before .before .before .before .before .before .before .before .before .before .before .args in
-    (at-rule (s .book .now) (c .before .before .before .before .before .before .before .before .before .before .before .before .before .before .before .before .before .before .before .before .before .before .before .before .before .before .before .before .before .before .before .pre .0) (s .tree .now) (s .part .now) (c .before .before .before .before .before .before .before .before .before .before .before .before .before .before .before .before .before .before .before .before .before .before .before .before .before .before .before .before .before .before .before .pre .1) (c .before .before .before .before .before .before .before .before .before .before .before .before .before .before .before .before .before .before .before .before .before .before .before .before .before .before .before .before .before .before .before .pre .2) _ _ _ (rw (c .before .before .before .before .before .before .before .before .before .before .before .before .before .before .before .before .number .given .1) at (c .before .before .before .before .before .before .before .before .before .before .before .before .before .before .before .before .before .before .before .before .before .before .walk-book .ensures)) (s .out .now) _ (c .before .before .before .before .before .before .before .before .before .before .before .before .before .before .before .before .before .before .before .before .before .before .before .before .before .before .before .before .before .before .before .pre .4) step.Stuck (rw (c .enum-told2 .given .1) at (c .before .before .before .before .before .before .before .before .before .before .before .write-rule .ensures)), (c .before .before .before .before .before .before .clear-used .ensures .0 ∙ used-cleared (bookWalk (s .book .now) (s .tree .now) (s .part .now)) _ _ _ (rw (c .before .before .before .before .before .before .before .before .before .before .before .before .before .before .before .before .number .given .1) at (c .before .before .before .before .before .before .before .before .before .before .before .before .before .before .before .before .before .before .before .before .before .before .walk-book .ensures)) (c .before .before .before .before .before .before .before .before .before .before .before .before .before .before .before .before .before .before .before .before .before .before .walk-book .kept .1 .1 .1 .0 ∙ zeros-long _ 65536 (c .before .before .before .before .before .before .before .before .before .before .before .before .before .before .before .before .before .before .before .before .before .before .before .before .before .before .before .before .before .before .before .pre .3 .0)) (c .before .before .before .before .before .before .before .before .before .before .before .before .before .before .before .before .before .before .before .before .before .before .walk-book .kept .1 .1 .1 .1 .0 ∙ ap length (c .before .before .before .before .before .before .before .before .before .before .before .before .before .before .before .before .before .before .before .before .before .before .before .before .before .before .before .before .before .before .before .pre .3 .1)) .1, c .before .before .before .before .before .before .clear-used .ensures .1))
+    let start = c .before .before .before .before .before .before .before .before .before .before .before .before .before .before .before .before .before .before .before .before .before .before .before .before .before .before .before .before .before .before .before in
+    let far = c .before .before .before .before .before .before .before .before .before .before .before .before .before .before .before .before .before .before .before .before .before .before in
+    let far2 = c .before .before .before .before .before .before .before .before .before .before .before .before .before .before .before .before in
+    let far3 = c .before .before .before .before .before .before in
+    let s = start .args in
+    (at-rule (s .book .now) (start .pre .0) (s .tree .now) (s .part .now) (start .pre .1) (start .pre .2) _ _ _ (rw (far2 .number .given .1) at (far .walk-book .ensures)) (s .out .now) _ (start .pre .4) step.Stuck (rw (c .enum-told2 .given .1) at (c .before .before .before .before .before .before .before .before .before .before .before .write-rule .ensures)), (far3 .clear-used .ensures .0 ∙ used-cleared (bookWalk (s .book .now) (s .tree .now) (s .part .now)) _ _ _ (rw (far2 .number .given .1) at (far .walk-book .ensures)) (far .walk-book .kept .1 .1 .1 .0 ∙ zeros-long _ 65536 (start .pre .3 .0)) (far .walk-book .kept .1 .1 .1 .1 .0 ∙ ap length (start .pre .3 .1)) .1, far3 .clear-used .ensures .1))
 
 pub rewrite-at-spec : {M : Type 1} → statement M
 rewrite-at-spec =

@@ -1,19 +1,87 @@
--- `simplify::one_step` meets its contract: the new part is written into fresh words.
+-- `simplify::one_step` meets its contract: one law for each way the lowest offset is told. The new part is written into fresh words.
 use borrow.Author.Needs.{needs}
-use mathlib.Core.Path.{refl}
+use native.Mathlib.Omega.{arith}
+use mathlib.Core.Path.{refl, sym}
+use lib.ListN.{take}
+use lib.Seq.{length-take-le}
+use Rattle.steps.proofs.Moves.{move-rests, move-broken, move-over, move-inside, move-replaced}
 use Rattle.steps.proofs.simplify.one_step.Statement.{statement}
 use Rattle.steps.proofs.simplify.one_step.Tie as tie
 
-step-with-requires : tie.Need-step-with-requires
-step-with-requires c κs = (c .before .before .before .before .before .before .before .before .before .pre .0, c .before .before .before .before .before .before .before .before .before .pre .1, c .before .before .before .before .before .before .before .before .before .pre .2, c .before .before .before .before .before .before .before .before .before .pre .3, c .before .before .before .before .before .before .before .before .before .pre .4, refl)
+slice-reshare-prefix-seek : tie.Need-slice-reshare-prefix-seek
+slice-reshare-prefix-seek c =
+    let start = c .before .before .before .before .before in
+    omega (arith, start .pre .1, start .pre .2)
+
+slice-aggregate-seek : tie.Need-slice-aggregate-seek
+slice-aggregate-seek c =
+    let start = c .before .before .before .before .before .before in
+    sym (length-take-le _ _ (omega (arith, start .pre .1, start .pre .2)))
+
+seek-requires : tie.Need-seek-requires
+seek-requires c κs =
+    let start = c .before .before .before .before .before .before .before .before .before in
+    (start .pre .0, start .pre .3, start .pre .4, refl)
+
+replace-requires : tie.Need-replace-requires
+replace-requires c κs =
+    let start = c .before .before .before .before .before .before .before .before .before .before .before .before .before .before .before .before .before .before .before .before in
+    let far = c .before .before .before .before .before .before .before .before .before .before in
+    let s = start .args in
+    let q = move-inside (s .book .now) (start .pre .0) (s .tree .now) (take (s .size) (s .area .now)) (start .pre .3) (far .seek .last .1 .1 .1 .1 .1 .0) (s .area .now) (s .area .now) _ _ (rw (c .before .before .before .at .given .1) at (far .seek .ensures .0)) in
+    (start .pre .1, far .seek .kept .1 .1 .1 .1 .1 .0, start .pre .2, omega (arith, q .0, length-take-le (s .size) (s .area .now) (omega (arith, start .pre .1, start .pre .2))), q .1)
+
+returns : tie.Need-returns
+returns c =
+    let start = c .before .before .before .before .before .before .before .before .before .before .before .before .before .before .before .before .before in
+    let far = c .before .before .before .before .before .before .before in
+    let s = start .args in (move-rests (s .book .now) (start .pre .0) (s .tree .now) (take (s .size) (s .area .now)) (start .pre .3) _ _ _ (rw (c .enum-told .given .1) at (far .seek .ensures .0)) refl, far .seek .ensures .1)
+
+returns-2 : tie.Need-returns-2
+returns-2 c =
+    let start = c .before .before .before .before .before .before .before .before .before .before .before .before .before .before .before .before .before .before .before .before .before .before .before .before in
+    let far = c .before .before .before .before .before .before .before .before .before .before .before .before .before .before in
+    let s = start .args in (move-replaced (s .book .now) (start .pre .0) (s .tree .now) (take (s .size) (s .area .now)) (start .pre .3) _ _ _ _ _ (rw (c .before .before .before .before .before .before .before .at .given .1) at (far .seek .ensures .0)) _ (c .before .before .before .replace .ensures), far .seek .ensures .1)
+
+returns-3 : tie.Need-returns-3
+returns-3 c =
+    let start = c .before .before .before .before .before .before .before .before .before .before .before .before .before .before .before .before .before in
+    let far = c .before .before .before .before .before .before .before in
+    let s = start .args in (move-over (s .book .now) (start .pre .0) (s .tree .now) (take (s .size) (s .area .now)) (start .pre .3) _ _ _ (rw (c .enum-told2 .given .1) at (far .seek .ensures .0)), far .seek .ensures .1)
+
+returns-4 : tie.Need-returns-4
+returns-4 c =
+    let start = c .before .before .before .before .before .before .before .before .before .before .before .before .before .before .before .before .before .before in
+    let far = c .before .before .before .before .before .before .before .before in
+    let s = start .args in (move-broken (s .book .now) (start .pre .0) (s .tree .now) (take (s .size) (s .area .now)) (start .pre .3) _ _ _ _ (rw (c .before .address .given .1) at (far .seek .ensures .0)), far .seek .ensures .1)
 
 pub one-step-spec : {M : Type 1} → statement M
 one-step-spec =
     tie.close
     (tie.spec
+    slice-reshare-prefix-seek
+    slice-aggregate-seek
     (λ c. search needs)
-    step-with-requires
+    seek-requires
     (λ c. search needs)
     (λ c. search needs)
     (λ c. search needs)
-    (λ c. search needs))
+    replace-requires
+    (λ c. search needs)
+    (λ c. search needs)
+    (λ c. search needs)
+    (λ c. search needs)
+    (λ c. search needs)
+    returns
+    (λ c. search needs)
+    (λ c. search needs)
+    (λ c. search needs)
+    returns-2
+    (λ c. search needs)
+    (λ c. search needs)
+    (λ c. search needs)
+    returns-3
+    (λ c. search needs)
+    (λ c. search needs)
+    (λ c. search needs)
+    returns-4)

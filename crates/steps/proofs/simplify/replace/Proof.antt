@@ -15,10 +15,16 @@ returns : tie.Need-returns
 returns c = let s = c .before .before .before .before .before .before .before .before .before .before .before .args in replace-long (take (s .size) (s .area .now)) (s .at) (take (s .n) (s .new .now)) _ (rw (c .enum-told .given .1) at (c .before .before .before .before .before .before .splice .ensures))
 
 slice-reshare-prefix-check-term : tie.Need-slice-reshare-prefix-check-term
-slice-reshare-prefix-check-term c = let s = c .before .before .before .before .before .before .before .before .before .before .before .before .args in omega (arith, replace-few (take (s .size) (s .area .now)) (s .at) (take (s .n) (s .new .now)) (c .before .before .before .before .before .before .before .splice .last .0) _ (rw (c .before .whole .given .1) at (c .before .before .before .before .before .before .before .splice .ensures)), c .before .before .before .before .before .before .before .splice .kept .0, c .before .before .before .before .before .before .before .before .before .before .before .before .pre .0)
+slice-reshare-prefix-check-term c =
+    let start = c .before .before .before .before .before .before .before .before .before .before .before .before in
+    let far = c .before .before .before .before .before .before .before in
+    let s = start .args in omega (arith, replace-few (take (s .size) (s .area .now)) (s .at) (take (s .n) (s .new .now)) (far .splice .last .0) _ (rw (c .before .whole .given .1) at (far .splice .ensures)), far .splice .kept .0, start .pre .0)
 
 slice-aggregate-check-term : tie.Need-slice-aggregate-check-term
-slice-aggregate-check-term c = let s = c .before .before .before .before .before .before .before .before .before .before .before .before .before .args in sym (length-take-le _ _ (omega (arith, replace-few (take (s .size) (s .area .now)) (s .at) (take (s .n) (s .new .now)) (c .before .before .before .before .before .before .before .before .splice .last .0) _ (rw (c .before .before .whole .given .1) at (c .before .before .before .before .before .before .before .before .splice .ensures)), c .before .before .before .before .before .before .before .before .splice .kept .0, c .before .before .before .before .before .before .before .before .before .before .before .before .before .pre .0)))
+slice-aggregate-check-term c =
+    let start = c .before .before .before .before .before .before .before .before .before .before .before .before .before in
+    let far = c .before .before .before .before .before .before .before .before in
+    let s = start .args in sym (length-take-le _ _ (omega (arith, replace-few (take (s .size) (s .area .now)) (s .at) (take (s .n) (s .new .now)) (far .splice .last .0) _ (rw (c .before .before .whole .given .1) at (far .splice .ensures)), far .splice .kept .0, start .pre .0)))
 
 returns-2 : tie.Need-returns-2
 returns-2 c = let s = c .before .before .before .before .before .before .before .before .before .before .before .before .before .before .before .before .args in replace-bad (take (s .size) (s .area .now)) (s .at) (take (s .n) (s .new .now)) _ _ (rw (c .before .before .before .before .before .whole .given .1) at (c .before .before .before .before .before .before .before .before .before .before .before .splice .ensures)) _ (sym (c .before .before .check-term .ensures) ∙ c .enum-told3 .given .1)

@@ -6,7 +6,7 @@ use Prim.Native.Nat.{_-_, _≤_}
 use lib.ListN.{length}
 use Rattle.term.proofs.Laws.{suffix}
 use Rattle.walk.proofs.Laws.{tail-parted}
-use Rattle.steps.specs.Operations.{Cleared}
+use Rattle.steps.specs.told.Operations.{Cleared}
 use Rattle.steps.proofs.Seeks.{Seeking, seek-start, seek-end, seek-more, seek-found, seek-over, seek-broken, some-left}
 use Rattle.steps.proofs.simplify.seek.Statement.{statement}
 use Rattle.steps.proofs.simplify.seek.Tie as tie
@@ -34,8 +34,10 @@ part-rewrite-at-end c = omega (arith, c .loop-test .taken)
 
 rewrite-at-requires : tie.Need-rewrite-at-requires Inv-loop μ-loop
 rewrite-at-requires c κs =
-    let s = c .before .before .before .before .before .before .before .before .before .before .before .before .args in
-    (c .before .before .before .before .before .before .before .before .before .before .before .before .pre .0, rw (suffix (c .before .before .before .before .before .loop .at) (s .term .now)) (tail-parted (s .term .now) (c .before .before .before .before .before .before .before .before .before .before .before .before .pre .1) (c .before .before .before .before .before .loop .at)), rw (suffix (c .before .before .before .before .before .loop .at) (s .term .now)) (some-left (s .term .now) (c .before .before .before .before .before .loop .at) (c .before .before .before .before .loop-test .taken)), c .before .before .before .before .before .loop .inv .2, c .before .before .before .before .before .loop .inv .1)
+    let start = c .before .before .before .before .before .before .before .before .before .before .before .before in
+    let turn = c .before .before .before .before .before in
+    let s = start .args in
+    (start .pre .0, rw (suffix (turn .loop .at) (s .term .now)) (tail-parted (s .term .now) (start .pre .1) (turn .loop .at)), rw (suffix (turn .loop .at) (s .term .now)) (some-left (s .term .now) (turn .loop .at) (c .before .before .before .before .loop-test .taken)), turn .loop .inv .2, turn .loop .inv .1)
 
 add-at : tie.Need-add-at Inv-loop μ-loop
 add-at c = omega (arith, c .before .before .before .before .before .before .before .before .before .before .before .before .before .loop-test .taken, c .before .before .before .before .before .before .before .before .before .before .before .before .before .before .before .before .before .before .before .before .before .pre .1 .short)
@@ -45,9 +47,13 @@ loop-less c = omega (arith, c .before .before .before .before .before .before .b
 
 loop-again : tie.Need-loop-again Inv-loop μ-loop
 loop-again c =
-    let s = c .before .before .before .before .before .before .before .before .before .before .before .before .before .before .before .before .before .before .before .before .before .args in
-    let q = seek-more (s .book .now) (s .tree .now) (s .term .now) (c .before .before .before .before .before .before .before .before .before .before .before .before .before .before .before .before .before .before .before .before .before .pre .1) (c .before .before .before .before .before .before .before .before .before .before .before .before .before .before .loop .at) (c .before .before .before .before .before .before .before .before .before .before .before .before .before .loop-test .taken) (c .before .before .before .before .before .before .before .before .before .before .before .before .before .before .loop .inv .3) _ (rw (suffix (c .before .before .before .before .before .before .before .before .before .before .before .before .before .before .loop .at) (s .term .now), c .enum-told .given .1) at (c .before .before .before .before .before .before .before .before .rewrite-at .ensures .0)) in
-    (omega (arith, c .before .before .before .before .before .before .before .before .before .before .before .before .before .loop-test .taken), c .before .before .before .before .before .before .before .before .rewrite-at .kept .1 .1 .1 .1 .1 .0 ∙ c .before .before .before .before .before .before .before .before .before .before .before .before .before .before .loop .inv .1, c .before .before .before .before .before .before .before .before .rewrite-at .ensures .1, q)
+    let start = c .before .before .before .before .before .before .before .before .before .before .before .before .before .before .before .before .before .before .before .before .before in
+    let turn = c .before .before .before .before .before .before .before .before .before .before .before .before .before .before in
+    let far = c .before .before .before .before .before .before .before .before .before .before .before .before .before in
+    let far2 = c .before .before .before .before .before .before .before .before in
+    let s = start .args in
+    let q = seek-more (s .book .now) (s .tree .now) (s .term .now) (start .pre .1) (turn .loop .at) (far .loop-test .taken) (turn .loop .inv .3) _ (rw (suffix (turn .loop .at) (s .term .now), c .enum-told .given .1) at (far2 .rewrite-at .ensures .0)) in
+    (omega (arith, far .loop-test .taken), far2 .rewrite-at .kept .1 .1 .1 .1 .1 .0 ∙ turn .loop .inv .1, far2 .rewrite-at .ensures .1, q)
 
 same-length : tie.Need-same-length Inv-loop μ-loop
 same-length c = c .before .before .before .before .before .before .before .before .before .rewrite-at .kept .1 .1 .1 .0 ∙ ap length (c .before .before .before .before .before .before .before .before .before .before .before .before .before .before .before .loop .inv .2 .0) ∙ sym (ap length (c .before .before .before .before .before .before .before .before .before .before .before .before .before .before .before .before .before .before .before .before .before .before .pre .2 .0))
@@ -86,16 +92,30 @@ same-length-12 : tie.Need-same-length-12 Inv-loop μ-loop
 same-length-12 c = c .before .loop .inv .1 ∙ sym (c .before .before .before .before .before .before .before .before .pre .3)
 
 returns : tie.Need-returns Inv-loop μ-loop
-returns c = let s = c .before .before .before .before .before .before .before .before .before .before .before .before .before .before .before .before .before .before .before .before .before .before .args in (seek-found (s .book .now) (s .tree .now) (s .term .now) (c .before .before .before .before .before .before .before .before .before .before .before .before .before .before .before .before .before .before .before .before .before .before .pre .1) (c .before .before .before .before .before .before .before .before .before .before .before .before .before .before .before .loop .at) (c .before .before .before .before .before .before .before .before .before .before .before .before .before .before .loop-test .taken) (c .before .before .before .before .before .before .before .before .before .before .before .before .before .before .before .loop .inv .3) _ _ (rw (suffix (c .before .before .before .before .before .before .before .before .before .before .before .before .before .before .before .loop .at) (s .term .now), c .before .n .given .1) at (c .before .before .before .before .before .before .before .before .before .rewrite-at .ensures .0)), c .before .before .before .before .before .before .before .before .before .rewrite-at .ensures .1)
+returns c =
+    let start = c .before .before .before .before .before .before .before .before .before .before .before .before .before .before .before .before .before .before .before .before .before .before in
+    let turn = c .before .before .before .before .before .before .before .before .before .before .before .before .before .before .before in
+    let far = c .before .before .before .before .before .before .before .before .before in
+    let s = start .args in (seek-found (s .book .now) (s .tree .now) (s .term .now) (start .pre .1) (turn .loop .at) (c .before .before .before .before .before .before .before .before .before .before .before .before .before .before .loop-test .taken) (turn .loop .inv .3) _ _ (rw (suffix (turn .loop .at) (s .term .now), c .before .n .given .1) at (far .rewrite-at .ensures .0)), far .rewrite-at .ensures .1)
 
 returns-2 : tie.Need-returns-2 Inv-loop μ-loop
-returns-2 c = let s = c .before .before .before .before .before .before .before .before .before .before .before .before .before .before .before .before .before .before .before .before .before .args in (seek-over (s .book .now) (s .tree .now) (s .term .now) (c .before .before .before .before .before .before .before .before .before .before .before .before .before .before .before .before .before .before .before .before .before .pre .1) (c .before .before .before .before .before .before .before .before .before .before .before .before .before .before .loop .at) (c .before .before .before .before .before .before .before .before .before .before .before .before .before .loop-test .taken) (c .before .before .before .before .before .before .before .before .before .before .before .before .before .before .loop .inv .3) _ (rw (suffix (c .before .before .before .before .before .before .before .before .before .before .before .before .before .before .loop .at) (s .term .now), c .enum-told2 .given .1) at (c .before .before .before .before .before .before .before .before .rewrite-at .ensures .0)), c .before .before .before .before .before .before .before .before .rewrite-at .ensures .1)
+returns-2 c =
+    let start = c .before .before .before .before .before .before .before .before .before .before .before .before .before .before .before .before .before .before .before .before .before in
+    let turn = c .before .before .before .before .before .before .before .before .before .before .before .before .before .before in
+    let far = c .before .before .before .before .before .before .before .before in
+    let s = start .args in (seek-over (s .book .now) (s .tree .now) (s .term .now) (start .pre .1) (turn .loop .at) (c .before .before .before .before .before .before .before .before .before .before .before .before .before .loop-test .taken) (turn .loop .inv .3) _ (rw (suffix (turn .loop .at) (s .term .now), c .enum-told2 .given .1) at (far .rewrite-at .ensures .0)), far .rewrite-at .ensures .1)
 
 returns-3 : tie.Need-returns-3 Inv-loop μ-loop
-returns-3 c = let s = c .before .before .before .before .before .before .before .before .before .before .before .before .before .before .before .before .before .before .before .before .before .before .args in (seek-broken (s .book .now) (s .tree .now) (s .term .now) (c .before .before .before .before .before .before .before .before .before .before .before .before .before .before .before .before .before .before .before .before .before .before .pre .1) (c .before .before .before .before .before .before .before .before .before .before .before .before .before .before .before .loop .at) (c .before .before .before .before .before .before .before .before .before .before .before .before .before .before .loop-test .taken) (c .before .before .before .before .before .before .before .before .before .before .before .before .before .before .before .loop .inv .3) _ _ (rw (suffix (c .before .before .before .before .before .before .before .before .before .before .before .before .before .before .before .loop .at) (s .term .now), c .before .address .given .1) at (c .before .before .before .before .before .before .before .before .before .rewrite-at .ensures .0)), c .before .before .before .before .before .before .before .before .before .rewrite-at .ensures .1)
+returns-3 c =
+    let start = c .before .before .before .before .before .before .before .before .before .before .before .before .before .before .before .before .before .before .before .before .before .before in
+    let turn = c .before .before .before .before .before .before .before .before .before .before .before .before .before .before .before in
+    let far = c .before .before .before .before .before .before .before .before .before in
+    let s = start .args in (seek-broken (s .book .now) (s .tree .now) (s .term .now) (start .pre .1) (turn .loop .at) (c .before .before .before .before .before .before .before .before .before .before .before .before .before .before .loop-test .taken) (turn .loop .inv .3) _ _ (rw (suffix (turn .loop .at) (s .term .now), c .before .address .given .1) at (far .rewrite-at .ensures .0)), far .rewrite-at .ensures .1)
 
 returns-4 : tie.Need-returns-4 Inv-loop μ-loop
-returns-4 c = let s = c .before .before .before .before .before .before .before .before .args in (seek-end (s .book .now) (s .tree .now) (s .term .now) (c .before .before .before .before .before .before .before .before .pre .1) (c .before .loop .at) (omega (arith, c .loop-test .left)) _ (c .before .loop .inv .3), c .before .loop .inv .2)
+returns-4 c =
+    let start = c .before .before .before .before .before .before .before .before in
+    let s = start .args in (seek-end (s .book .now) (s .tree .now) (s .term .now) (start .pre .1) (c .before .loop .at) (omega (arith, c .loop-test .left)) _ (c .before .loop .inv .3), c .before .loop .inv .2)
 
 pub seek-spec : {M : Type 1} → statement M
 seek-spec =

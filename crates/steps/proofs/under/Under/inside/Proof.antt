@@ -1,5 +1,6 @@
 -- `under::Under::inside` meets its contract: only an abstraction is entered, and its mark is the number of those around it.
 use borrow.Author.Needs.{needs}
+use native.Mathlib.Omega.{arith}
 use mathlib.Core.Path.{sym}
 use Rattle.steps.proofs.Depths.{inside-abstraction-is, inside-other-is}
 use Rattle.steps.proofs.under.Under.inside.Statement.{statement}
@@ -12,4 +13,4 @@ returns-2 : tie.Need-returns-2
 returns-2 c = sym (inside-abstraction-is (c .before .args .t1) (c .before .args .w) (c .if1 .left))
 
 pub inside-spec : {M : Type 1} → statement M
-inside-spec = tie.close (tie.spec returns (λ c. search needs) (λ c. search needs) (λ c. search needs) (λ c. search needs) returns-2)
+inside-spec = tie.close (tie.spec (λ c. omega (arith, c .pre .3)) returns (λ c. search needs) (λ c. search needs) (λ c. search needs) (λ c. search needs) returns-2)

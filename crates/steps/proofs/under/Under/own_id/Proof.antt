@@ -6,10 +6,14 @@ use Rattle.steps.proofs.under.Under.own_id.Statement.{statement}
 use Rattle.steps.proofs.under.Under.own_id.Tie as tie
 
 sub-result : tie.Need-sub-result
-sub-result c = own-low _ (c .before .before .before .pre) (c .before .before .before .args .i) (omega (arith, c .before .before .if1 .left)) (omega (arith, c .before .if2 .left))
+sub-result c =
+    let start = c .before .before .before in
+    own-low _ (start .pre) (start .args .i) (omega (arith, c .before .before .if1 .left)) (omega (arith, c .before .if2 .left))
 
 returns-3 : tie.Need-returns-3
-returns-3 c = own-id-is _ (c .before .before .before .pre) (c .before .before .before .args .i)
+returns-3 c =
+    let start = c .before .before .before in
+    own-id-is _ (start .pre) (start .args .i)
 
 pub own-id-spec : {M : Type 1} → statement M
 own-id-spec = tie.close (tie.spec (λ c. search needs) (λ c. search needs) (λ c. search needs) (λ c. search needs) sub-result returns-3)

@@ -6,37 +6,47 @@ use mathlib.Core.List.{List}
 use mathlib.Core.Option.{some}
 use lib.Dec.{leb}
 use lib.ListN.{length, take, replicate}
-use Rattle.term.specs.declared.check.Checked.the-variants.{Good}
+use Rattle.term.specs.declared.check.Checked.{Checked}
+use Rattle.term.specs.declared.check.Checked.the-variants.{Good, Bad}
 use Rattle.term.specs.declared.answer.Answer.{Answer}
 use Rattle.term.specs.declared.answer.Answer.the-variants as answer
-use Rattle.term.specs.declared.renumber.Step.{Step}
+use Rattle.term.specs.declared.renumber.Passed.{Passed}
 use Rattle.term.specs.Word.{pick}
 use Rattle.term.specs.Row.{Row, words}
 use Rattle.term.specs.Check.{check, termLimits}
+use Rattle.book.specs.declared.accept.Accepted.{Accepted}
+use Rattle.book.specs.declared.accept.Accepted.the-variants as accepted
 use Rattle.book.specs.Book.{Rule, checkBook, ruleAt}
-use Rattle.fit.specs.Build.{Built, buildAnswer, buildWords, withinLimits}
+use Rattle.fit.specs.Build.{withinLimits}
 use Rattle.walk.specs.Walk.{Walked, NoneFits, RuleFits, DamagedAt}
 use Rattle.steps.specs.Rewrite.{rewritten}
-use Rattle.steps.specs.RightWalk.{RightWritten}
+use Rattle.steps.specs.told.RightWalk.{RightWritten}
 use Rattle.steps.specs.Step.{Sought, Nowhere, FoundAt, Broken, lowestOffset, Stepped, Rests, Becomes, Refused}
-use Rattle.steps.specs.Simplify.{Run, Stopped, Ended, budgetUsed, simplifyAnswer, simplifyWords, simplifySteps}
+use Rattle.steps.specs.Simplify.{Run, Stopped, Ended, budgetUsed}
 use Rattle.steps.specs.declared.rules.Rewrote.{Rewrote}
 use Rattle.steps.specs.declared.rules.Rewrote.the-variants as rewrote
 use Rattle.steps.specs.declared.simplify.Lowest.{Lowest}
 use Rattle.steps.specs.declared.simplify.Lowest.the-variants as lowest
 use Rattle.steps.specs.declared.simplify.Moved.{Moved}
 use Rattle.steps.specs.declared.simplify.Moved.the-variants as moved
-use Rattle.steps.specs.declared.simplify.Simplified.{Simplified}
+use Rattle.steps.specs.declared.simplify.Ran.{Ran}
 
-abbrev pub Accepted : List ℕ → Type 0
-Accepted book = checkBook book ≡ Good
+-- what an accepted book is here: each of its rules is good
+abbrev pub GoodBook : List ℕ → Type 0
+GoodBook book = checkBook book ≡ Good
+
+-- the book is asked, and then the term
+abbrev pub asked : Accepted → Checked → Accepted
+asked accepted.Sound Good = accepted.Sound
+asked accepted.Sound (Bad at) = accepted.Refused (answer.BadTerm at)
+asked (accepted.Refused a) c = accepted.Refused a
 
 -- room for the bodies of a rule and their lengths, with nothing in it
 abbrev pub Cleared : List ℕ → List ℕ → Type 0
 Cleared bodies lengths = (bodies ≡ replicate 65536 0) × (lengths ≡ replicate 16 0)
 
 -- the right side of the rule of this number, where the book has it
-unfoldable pub RuleWritten : List ℕ → ℕ → List ℕ → List ℕ → List ℕ → List ℕ → Step → Type 0
+unfoldable pub RuleWritten : List ℕ → ℕ → List ℕ → List ℕ → List ℕ → List ℕ → Passed → Type 0
 RuleWritten book number bodies lengths out done r = (rule : Rule) → ruleAt book number ≡ some rule → RightWritten (rule .right) bodies lengths out done r
 
 -- ---- what a rule writes stands in front, or it is over the limits
@@ -55,9 +65,6 @@ RewriteTold book (DamagedAt at) out r = r ≡ rewrote.Damaged at
 -- ---- an answer with words into a lent slice
 abbrev pub givenAnswer : ℕ → List ℕ → Answer → Answer
 givenAnswer room ws a = pick (leb (length ws) room) a answer.Short
-
-abbrev pub BuiltTold : ℕ → Built → Answer → List ℕ → Type 0
-BuiltTold room b r out = (r ≡ buildAnswer room b) × (out ≡ buildWords room b)
 
 -- ---- the lowest offset with a rule, and what the rule writes there
 abbrev pub FoundTold : ℕ → Row → List ℕ → Lowest → Type 0
@@ -83,9 +90,10 @@ MoveTold Rests before area r = (r ≡ moved.Rests) × (area ≡ before)
 MoveTold (Becomes u) before area r = (size : ℕ) × (r ≡ moved.To size) × (size ≤ 4096) × (take size area ≡ words u)
 MoveTold (Refused a) before area r = r ≡ moved.Refused a
 
--- ---- how simplifying ends
-abbrev pub RunTold : ℕ → Run → Simplified → List ℕ → Type 0
-RunTold room run r out = (r .answer ≡ simplifyAnswer room run) × (out ≡ simplifyWords room run) × (r .steps ≡ simplifySteps run)
+-- ---- how repeating steps ends: the term so far stands in the work area
+abbrev pub RanTold : Run → Ran → List ℕ → Type 0
+RanTold (Stopped n a) r area = (r .answer ≡ a) × (r .steps ≡ n) × (r .size ≡ 0)
+RanTold (Ended n a t) r area = (r .answer ≡ a) × (r .steps ≡ n) × (r .size ≤ length area) × (take (r .size) area ≡ words t)
 
 -- a run with so many steps before it
 abbrev pub countedFrom : ℕ → Run → Run

@@ -1,0 +1,6 @@
+-- What the functions below the operations tell: here so that their contracts can be said.
+pub mod Area
+pub mod Operations
+pub mod RightWalk
+pub mod Told
+pub mod Under
