@@ -3,19 +3,20 @@ use mathlib.Core.Path.{_≡_, sym, ap, ap₂, _∙_}
 use mathlib.Core.Bool.{Bool, true, false}
 use mathlib.Core.List.{List, [], _∷_}
 use mathlib.Core.Option.{some}
-use Prim.Native.Nat.{ℕ, suc, _+_, _*_, _≤_, _<_}
+use Prim.Native.Nat.{ℕ, suc, _+_, _≤_, _<_}
 use native.Mathlib.Omega.{arith}
 use native.Mathlib.Numerals.{add-one}
-use lib.ListN.{length, getD, take, drop}
+use lib.ListN.{length, take, drop}
 use Rattle.term.specs.Word.{pick}
-use Rattle.tree.specs.Compiled.{treeWords}
+use Rattle.tree.specs.Layout.{treeWords}
 use Rattle.steps.specs.Simplify.{simplify}
+use Rattle.text.specs.BookText.{dueAfter}
 use Rattle.text.proofs.Laws.{first-words}
 use Rattle.simplify.specs.declared.first.First.{First}
 use Rattle.simplify.specs.declared.next.Next.{Next}
 use Rattle.simplify.specs.File.{termLine, termsAre, termsRead, fileSaid}
 use Rattle.simplify.specs.Printed.{refused, termBlock, termBlocks, fileBook, fileTerms, firstBlock, blocks}
-use Rattle.simplify.specs.Told.{BlockTold, NextTold, Ready, FirstTold}
+use Rattle.simplify.specs.told.Told.{BlockTold, NextTold, Ready, FirstTold}
 use Rattle.simplify.proofs.Lines.{Standing, none-left, one-left, standing}
 
 -- what is printed of a block is the block
@@ -70,7 +71,7 @@ module _ (bs book tree out done : List ℕ) (r : First) (room : length out ≡ 6
       let f = fileSaid bs in
       let said = as-said g (r .book) (r .tree) (r .number) (g .book-words) (g .tree-words) (g .from-zero) c in
       ap₂ _∷_ first-printed
-      (terms-printed bs (fileBook f) (4 * getD (fileBook f) 0 0 + 3) (fileTerms f) (g .terms) said
+      (terms-printed bs (fileBook f) (dueAfter (fileBook f)) (fileTerms f) (g .terms) said
       ∙ sym (ap (λ (b : Bool). pick b [] (termBlocks (fileBook f) 0 (fileTerms f))) (sym (told .refuses) ∙ e)))
     where
       as-said : Ready bs book tree r → (n m k : ℕ) → take n book ≡ fileBook (fileSaid bs) → take m tree ≡ treeWords (fileBook (fileSaid bs)) → k ≡ 0

@@ -15,12 +15,14 @@ use Rattle.term.specs.Answer.{numberOf, placeOf}
 use Rattle.term.specs.Word.{pick}
 use Rattle.term.proofs.Laws.{never}
 use Rattle.book.specs.Book.{checkBook}
+use Rattle.book.specs.Accept.{judged}
 use Rattle.book.proofs.Laws.{BadWithin, bad-within}
-use Rattle.tree.specs.Compiled.{treeWords, hasRoom, compiledAnswer, compileAnswer, compileWords, compileLength}
-use Rattle.tree.proofs.Laws.{TreeMade, done-made, compile-answer}
+use Rattle.tree.specs.Layout.{treeWords}
+use Rattle.compiler.specs.Compiled.{hasRoom, compiledAnswer, compileAnswer, compileWords, compileLength}
+use Rattle.compiler.proofs.Laws.{TreeMade, done-made, compile-answer}
 use Rattle.simplify.specs.declared.first.First.{First}
 use Rattle.simplify.specs.Printed.{refused, refusalBlock, headText}
-use Rattle.simplify.specs.Told.{FileRead, HeadReady, HeadTold, Ready, FirstTold}
+use Rattle.simplify.specs.told.Told.{FileRead, HeadReady, HeadTold, Ready, FirstTold}
 use Rattle.simplify.proofs.BlockTexts.{Short}
 use Rattle.simplify.proofs.Inputs.{BadFile}
 
@@ -33,7 +35,7 @@ module _ (room : ℕ) (book : List ℕ) where
       roomy true = omega arith
       roomy false = omega arith
 
-      go : (c : Checked) → BadWithin 64 c → placeOf (compiledAnswer room book c) ≤ 64
+      go : (c : Checked) → BadWithin 64 c → placeOf (compiledAnswer room book (judged c)) ≤ 64
       go Good b = roomy (hasRoom room (treeWords book))
       go (Bad at) b = b
 
@@ -44,7 +46,7 @@ module _ (room : ℕ) (book : List ℕ) where
       roomy true h = refl
       roomy false h = absurd (omega arith)
 
-      go : (c : Checked) → numberOf (compiledAnswer room book c) < 10 → compiledAnswer room book c ≡ answers.Done
+      go : (c : Checked) → numberOf (compiledAnswer room book (judged c)) < 10 → compiledAnswer room book (judged c) ≡ answers.Done
       go Good h = roomy (hasRoom room (treeWords book)) h
       go (Bad at) h = absurd (omega arith)
 

@@ -1,19 +1,17 @@
--- What a file says, for each way through reading it: each line tells what is said from there on.
-use mathlib.Core.Path.{_≡_}
-use mathlib.Core.List.{List, _∷_}
-use Prim.Native.Nat.{ℕ, _+_, _*_, _≤_, _<_}
+-- What a file says, for each way through reading it: the lines of its book tell what is said from there on.
+use mathlib.Core.Path.{_≡_, sym, ap, _∙_}
+use mathlib.Core.List.{List}
+use Prim.Native.Nat.{ℕ, _+_, _≤_, _<_}
 use native.Mathlib.Omega.{arith}
-use lib.ListN.{length, drop, set}
+use lib.ListN.{length, getD, take, drop}
 use borrow.Author.Tests.{le-leb, lt-leb}
-use Rattle.text.specs.BookText.{bookLine, rulesKey, rulesRead}
-use Rattle.text.specs.BookTold.{KeyTold, NumberLineTold, RulesTold}
-use Rattle.text.specs.declared.key.Key.the-variants as keys
-use Rattle.text.specs.declared.number.Number.the-variants as numbers
+use Rattle.text.specs.BookText.{badAt, bookRead, dueAfter}
+use Rattle.text.specs.told.BookTold.{RulesTold}
 use Rattle.text.specs.declared.rule_text.Rules.the-variants as rules
-use Rattle.text.proofs.Laws.{rules-bad, counted-words}
+use Rattle.text.proofs.Laws.{book-counted, book-bad, first-words}
 use Rattle.simplify.specs.declared.input.Judged.the-variants as judged
-use Rattle.simplify.specs.File.{termsRead, badFile, fileSaid}
-use Rattle.simplify.specs.Told.{TermsTold, FileRead}
+use Rattle.simplify.specs.File.{termsAre, badTerm, termsRead, badFile, fileSaid}
+use Rattle.simplify.specs.told.Told.{TermsTold, FileRead}
 
 abbrev pub BadFile : List ℕ → ℕ → Type 0
 BadFile bs line = (fileSaid bs ≡ badFile line) × (line ≤ 65900)
@@ -24,37 +22,41 @@ module _ (bs : List ℕ) where
   too-long h = (rw (lt-leb (length bs) 65536 h), omega arith)
 
   module _ (h : length bs ≤ 65536) where
-    pub no-book : KeyTold bookLine bs 0 keys.None → BadFile bs 1
+    pub no-book : (line : ℕ) → bookRead bs ≡ badAt line → BadFile bs line
     unfolding fileSaid
-    no-book e = (rw (le-leb (length bs) 65536 h, e), omega arith)
+    no-book line e = (rw (le-leb (length bs) 65536 h, e), omega (arith, book-bad bs line e))
 
-    module _ (a : ℕ) (k : KeyTold bookLine bs 0 (keys.After a)) where
-      pub no-count : NumberLineTold rulesKey 64 bs a numbers.None → BadFile bs 2
-      unfolding fileSaid
-      no-count q = (rw (le-leb (length bs) 65536 h, k .0, q), omega arith)
+    module _ (out done : List ℕ) (n at : ℕ) (l : length out ≡ 8385) (r : RulesTold bookRead 8385 bs 0 0 out done (rules.Words n at)) where
+      the-words : take n done ≡ r .0
+      the-words = first-words out (r .0) done n (r .3) (r .2) (omega (arith, r .5, l))
 
-      module _ (n b : ℕ) (c : NumberLineTold rulesKey 64 bs a (numbers.Read n b)) where
-        pub no-rules : (out done : List ℕ) (line : ℕ) → RulesTold (rulesRead 0 n) 8384 bs b 1 out done (rules.Bad line) → BadFile bs line
+      pub book-there : (1 ≤ length (take n done)) × (getD (take n done) 0 0 ≤ 64)
+      book-there = rw the-words (book-counted bs (r .0) (drop at bs) (r .1))
+
+      module _ (due : ℕ) (d : due ≡ dueAfter (take n done)) where
+        pub due-small : due ≤ 259
+        due-small = omega (arith, d, book-there .1)
+
+        pub no-terms : (line : ℕ) → TermsTold (termsRead due (drop at bs)) (due + length bs) (judged.Bad line) → BadFile bs line
         unfolding fileSaid
-        no-rules out done line r = (rw (le-leb (length bs) 65536 h, k .0, c .0, r), omega (arith, rules-bad n (drop b bs) line r, c .1))
+        no-terms line t =
+            let q : termsRead (dueAfter (r .0)) (drop at bs) ≡ badTerm line = ap (λ (k : ℕ). termsRead k (drop at bs)) (sym (d ∙ ap dueAfter the-words)) ∙ t .0 in
+            (rw (le-leb (length bs) 65536 h, r .1, q), omega (arith, t .1, due-small))
 
-        module _ (out mid : List ℕ) (m at : ℕ) (r : RulesTold (rulesRead 0 n) 8384 bs b 1 out mid (rules.Words m at)) where
-          pub no-terms : (line : ℕ) → TermsTold (termsRead (4 * n + 3) (drop at bs)) (4 * n + 3 + length bs) (judged.Bad line) → BadFile bs line
-          unfolding fileSaid
-          no-terms line t = (rw (le-leb (length bs) 65536 h, k .0, c .0, r .1, t .0), omega (arith, t .1, c .1))
-
-          pub all-there : (done : List ℕ) → length out ≡ 8385 → done ≡ set mid 0 n → TermsTold (termsRead (4 * n + 3) (drop at bs)) (4 * n + 3 + length bs) judged.Good → FileRead bs done (m + 1) at
-          unfolding fileSaid
-          all-there done l e t =
-              record {
-                book = n ∷ r .0;
-                terms = t .0;
-                said = rw (le-leb (length bs) 65536 h, k .0, c .0, r .1, t .1);
-                words = counted-words out (r .0) mid done m n (r .2) (r .3) e (omega (arith, r .5, l));
-                some-words = omega arith;
-                few = omega (arith, r .5);
-                rules = c .1;
-                left = t .1;
-                inside = r .4;
-                short = h;
-              }
+        pub all-there : TermsTold (termsRead due (drop at bs)) (due + length bs) judged.Good → FileRead bs done n at
+        unfolding fileSaid
+        all-there t =
+            let q : termsRead (dueAfter (r .0)) (drop at bs) ≡ termsAre (t .0) = ap (λ (k : ℕ). termsRead k (drop at bs)) (sym (d ∙ ap dueAfter the-words)) ∙ t .1 in
+            let b = book-counted bs (r .0) (drop at bs) (r .1) in
+            record {
+              book = r .0;
+              terms = t .0;
+              said = rw (le-leb (length bs) 65536 h, r .1, q);
+              words = the-words;
+              some-words = omega (arith, b .0, r .2);
+              few = r .5;
+              rules = b .1;
+              left = q;
+              inside = r .4;
+              short = h;
+            }

@@ -13,14 +13,14 @@ use Rattle.term.proofs.Laws.{never}
 use Rattle.text.specs.Number.{Read}
 use Rattle.text.specs.Line.{lineText, line}
 use Rattle.text.specs.BookText.{keyed, afterKey}
-use Rattle.text.specs.Told.{LineTold}
-use Rattle.text.specs.BookTold.{KeyTold}
+use Rattle.text.specs.told.Told.{LineTold}
+use Rattle.text.specs.told.BookTold.{KeyTold}
 use Rattle.text.specs.declared.key.Key.the-variants as keys
 use Rattle.text.specs.declared.line.Line.{Line}
 use Rattle.text.specs.declared.line.Line.the-variants as lines
 use Rattle.text.proofs.Laws.{key-is, line-is}
 use Rattle.simplify.specs.File.{termKey, termLine, Terms, termsAre, badTerm, before, termThen, termsIn, termsRead}
-use Rattle.simplify.specs.Told.{TermLineTold}
+use Rattle.simplify.specs.told.Told.{TermLineTold}
 
 -- ---- one line
 pub no-key : (bs : List ℕ) (at : ℕ) → KeyTold termKey bs at keys.None → termLine (drop at bs) ≡ none

@@ -22,7 +22,7 @@ use Rattle.text.proofs.Laws.{line-short, Wrote, wrote-then, first-words}
 use Rattle.simplify.specs.declared.next.Next.{Next}
 use Rattle.simplify.specs.File.{termLine}
 use Rattle.simplify.specs.Printed.{dashLine, answerText, runWords, termBlock}
-use Rattle.simplify.specs.Told.{TermLineTold, BlockTold, NextTold}
+use Rattle.simplify.specs.told.Told.{TermLineTold, BlockTold, NextTold}
 use Rattle.simplify.proofs.BlockTexts.{Short, answer-before}
 
 -- ---- the words of a term before zeros end where their counts say

@@ -1,17 +1,17 @@
 -- Document 01, "Text and program": a file is the lines of a book and then `term=` lines, within 65,536 bytes.
-use Prim.Native.Nat.{ℕ, zero, suc, _+_, _*_}
+use Prim.Native.Nat.{ℕ, zero, suc}
 use mathlib.Core.List.{List, [], _∷_}
-use mathlib.Core.Option.{Option, none, some}
+use mathlib.Core.Option.{none, some}
 use lib.Dec.{leb}
 use lib.ListN.{length}
 use Rattle.term.specs.Word.{pick}
+use Rattle.text.specs.Bytes.{bytes}
 use Rattle.text.specs.Number.{Read}
 use Rattle.text.specs.Line.{line}
-use Rattle.text.specs.BookText.{bookLine, rulesKey, keyed, afterKey, numberLine, Rules, rulesAre, badAt, rulesRead}
+use Rattle.text.specs.BookText.{keyed, afterKey, Rules, rulesAre, badAt, bookRead, dueAfter}
 
--- `term=`
 abbrev pub termKey : List ℕ
-termKey = 116 ∷ 101 ∷ 114 ∷ 109 ∷ 61 ∷ []
+termKey = bytes "term="
 
 -- a `term=` line of 1 to 4,096 tokens: its words, and the text after it
 unfoldable pub termLine : List ℕ → Read (List ℕ)
@@ -51,19 +51,10 @@ abbrev pub withTerms : List ℕ → Terms → File
 withTerms book (termsAre terms) = fileIs book terms
 withTerms book (badTerm at) = badFile at
 
--- two lines and four for each rule stand before the terms
-abbrev pub rulesThen : ℕ → Rules → File
-rulesThen n (rulesAre ws rest) = withTerms (n ∷ ws) (termsRead (4 * n + 3) rest)
-rulesThen n (badAt at) = badFile at
-
-abbrev pub countThen : Read ℕ → File
-countThen none = badFile 2
-countThen (some p) = rulesThen (p .0) (rulesRead 0 (p .0) (p .1))
-
-abbrev pub bookThen : Option (List ℕ) → File
-bookThen none = badFile 1
-bookThen (some bs) = countThen (numberLine rulesKey 64 bs)
+abbrev pub fileThen : Rules → File
+fileThen (rulesAre book rest) = withTerms book (termsRead (dueAfter book) rest)
+fileThen (badAt at) = badFile at
 
 -- "0 if over 65,536 bytes"
 unfoldable pub fileSaid : List ℕ → File
-fileSaid bs = pick (leb (length bs) 65536) (bookThen (keyed bookLine bs)) (badFile 0)
+fileSaid bs = pick (leb (length bs) 65536) (fileThen (bookRead bs)) (badFile 0)

@@ -9,30 +9,31 @@ use Rattle.term.specs.declared.answer.Answer.the-variants.{BadText}
 use Rattle.term.specs.Answer.{numberOf, placeOf}
 use Rattle.term.specs.Word.{pick}
 use Rattle.term.specs.Row.{words}
-use Rattle.tree.specs.Compiled.{treeWords, compileAnswer}
+use Rattle.tree.specs.Layout.{treeWords}
+use Rattle.compiler.specs.Compiled.{compileAnswer}
 use Rattle.steps.specs.Simplify.{Run, Stopped, Ended, simplify, simplifyAnswer, simplifySteps}
+use Rattle.text.specs.Bytes.{bytes}
 use Rattle.text.specs.Line.{lineText}
 use Rattle.text.specs.BookText.{bookLine, rulesKey, numberText}
 use Rattle.simplify.specs.File.{termKey, File, fileIs, badFile, fileSaid}
 
--- `tree=`, `answer=`, `steps=`, `result=`, `at=`; `-` and the end of its line
 abbrev pub treeKey : List ℕ
-treeKey = 116 ∷ 114 ∷ 101 ∷ 101 ∷ 61 ∷ []
+treeKey = bytes "tree="
 
 abbrev pub answerKey : List ℕ
-answerKey = 97 ∷ 110 ∷ 115 ∷ 119 ∷ 101 ∷ 114 ∷ 61 ∷ []
+answerKey = bytes "answer="
 
 abbrev pub stepsKey : List ℕ
-stepsKey = 115 ∷ 116 ∷ 101 ∷ 112 ∷ 115 ∷ 61 ∷ []
+stepsKey = bytes "steps="
 
 abbrev pub resultKey : List ℕ
-resultKey = 114 ∷ 101 ∷ 115 ∷ 117 ∷ 108 ∷ 116 ∷ 61 ∷ []
+resultKey = bytes "result="
 
 abbrev pub atKey : List ℕ
-atKey = 97 ∷ 116 ∷ 61 ∷ []
+atKey = bytes "at="
 
 abbrev pub dashLine : List ℕ
-dashLine = 45 ∷ 10 ∷ []
+dashLine = bytes "-\n"
 
 -- "Refusals are 10 and up"
 abbrev pub refused : Answer → Bool

@@ -3,21 +3,17 @@ ghost use mathlib.Core.Path.{_≡_};
 ghost use Prim.Native.Nat.{_+_, _≤_};
 ghost use lib.ListN.{length, drop};
 ghost use Rattle.simplify.specs.File.{termsRead};
-ghost use Rattle.simplify.specs.Told.{TermLineTold, TermsTold, InputTold};
+ghost use Rattle.simplify.specs.told.Told.{TermLineTold, TermsTold, InputTold};
 use term::check::MOST_WORDS;
-use term::lent::put;
-use text::book_text::MOST_RULES;
+use text::book_text::line_after;
+use text::book_text::read_lines;
 use text::key::Key;
 use text::key::read_key;
-use text::key::read_number_line;
 use text::line::Line;
 use text::line::read_line;
-use text::number::Number;
-use text::rule_text::LINES;
-use text::rule_text::RULE_LINE;
 use text::rule_text::Rules;
-use text::rule_text::read_rules;
 use text::term_text::MOST_BYTES;
+use text::term_text::NO_LINE;
 
 // Every line is in form, or the first that is not.
 pub enum Judged {
@@ -65,20 +61,13 @@ pub fn read_input(text: &[u8], book: &mut [u32], words: &mut [u32]) -> Input
     ensures { λ r. ⌜ InputTold (now (text .entry)) (now (book .exit)) r ⌝ }
 {
     if MOST_BYTES < text.len() {
-        return Input::Bad(0);
+        return Input::Bad(NO_LINE);
     }
-    let Key::After(count_at) = read_key(text, 0, b"book=1\n") else {
-        return Input::Bad(1);
-    };
-    let Number::Read(count, rules_at) = read_number_line(text, count_at, b"rules=", MOST_RULES)
-    else {
-        return Input::Bad(2);
-    };
-    match read_rules(text, rules_at, count as usize, book) {
+    match read_lines(text, 0, book) {
         Rules::Words(n, at) => {
-            put(book, 0, count);
-            match judge_terms(text, at, LINES * count as usize + RULE_LINE, words) {
-                Judged::Good => Input::Words(n + 1, at),
+            let due = line_after(&book[..n]);
+            match judge_terms(text, at, due, words) {
+                Judged::Good => Input::Words(n, at),
                 Judged::Bad(line) => Input::Bad(line),
             }
         }

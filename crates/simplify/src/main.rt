@@ -1,23 +1,26 @@
-// The program `simplify`: reads a book and terms from standard input, and prints block after block what document 01 says.
+// The program `simplify`: reads a book and terms from standard input, and prints block after block what document 01 says. What fails is
+// said on standard error.
 mod blocks;
 mod first;
 mod input;
 mod next;
+mod streams;
 
 ghost use mathlib.Core.Path.{_≡_};
 ghost use Prim.Native.Nat.{_≤_};
 ghost use lib.ListN.{length};
 use first::first_block;
-use libc::STDIN_FILENO;
-use libc::STDOUT_FILENO;
 use next::next_block;
+use streams::Came;
+use streams::has_arguments;
+use streams::print;
+use streams::read_all;
+use streams::read_failed;
 use text::book_text::BOOK;
+use tree::node::MOST_TREE;
 
 // One byte more than a file may have, so that a longer one is seen.
 const ROOM: usize = 65537;
-
-// A tree has at most so many words.
-const TREE: usize = 16384;
 
 // The longest block is 4,096 tokens and a few short lines.
 const BLOCK: usize = 65536;
@@ -31,7 +34,7 @@ fn print_terms(text: &[u8], from: usize, first: u32, book: &[u32], tree: &[u32],
     while at < text.len() {
         let next = next_block(text, at, term, book, tree, out);
         let length = next.length;
-        if !io::write_all(STDOUT_FILENO, &out[..length]) {
+        if !print(&out[..length]) {
             return;
         }
         at = next.at;
@@ -45,7 +48,7 @@ fn print_file(text: &[u8], book: &mut [u32], tree: &mut [u32], out: &mut [u8])
 {
     let first = first_block(text, book, tree, out);
     let length = first.length;
-    if !io::write_all(STDOUT_FILENO, &out[..length]) {
+    if !print(&out[..length]) {
         return;
     }
     if first.refused {
@@ -67,14 +70,23 @@ fn print_file(text: &[u8], book: &mut [u32], tree: &mut [u32], out: &mut [u8])
 fn print_input(text: &mut [u8], book: &mut [u32], tree: &mut [u32], out: &mut [u8])
     requires { ⌜ (length (now book) ≡ 8385) × (length (now tree) ≡ 16384) × (length (now out) ≡ 65536) ⌝ }
 {
-    let n = io::read_full(STDIN_FILENO, text);
-    print_file(&text[..n], book, tree, out);
+    match read_all(text) {
+        Came::Bytes(n) => {
+            print_file(&text[..n], book, tree, out);
+        }
+        Came::Failed => {
+            read_failed();
+        }
+    }
 }
 
 fn main() {
+    if has_arguments() {
+        return;
+    }
     let mut text = [0u8; ROOM];
     let mut book = [0u32; BOOK];
-    let mut tree = [0u32; TREE];
+    let mut tree = [0u32; MOST_TREE];
     let mut out = [0u8; BLOCK];
     print_input(&mut text, &mut book, &mut tree, &mut out);
 }

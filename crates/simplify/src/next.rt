@@ -3,7 +3,7 @@ ghost use mathlib.Core.Path.{_≡_};
 ghost use Prim.Native.Nat.{_≤_};
 ghost use lib.ListN.{length, drop};
 ghost use Rattle.simplify.specs.File.{termLine};
-ghost use Rattle.simplify.specs.Told.{NextTold};
+ghost use Rattle.simplify.specs.told.Told.{NextTold};
 use crate::blocks::FIRST_REFUSAL;
 use crate::blocks::write_answer;
 use crate::blocks::write_result;

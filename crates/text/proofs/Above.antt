@@ -1,15 +1,16 @@
 -- What crates above cite of the lines of a book: a line's text before what follows it, how long it can be, and how far down a bad line of the rules can stand. Each is its definition's own line, or one induction on the rules.
-use mathlib.Core.Path.{_≡_}
+use mathlib.Core.Path.{_≡_, refl}
 use mathlib.Core.Bool.{Bool, true, false}
-use mathlib.Core.List.{List, [], _++_, append-assoc}
-use mathlib.Core.Option.{none, some}
+use mathlib.Core.List.{List, [], _∷_, _++_, append-assoc}
+use mathlib.Core.Option.{Option, none, some}
 use Prim.Native.Nat.{ℕ, zero, suc, _+_, _*_, _≤_, _<_}
 use native.Mathlib.Omega.{arith}
 use lib.Dec.{eqb}
-use lib.ListN.{length, length-append}
+use lib.ListN.{length, getD, length-append}
 use Rattle.term.specs.Word.{pick}
 use Rattle.text.specs.Number.{Read}
-use Rattle.text.specs.BookText.{numberText, varsKey, leftKey, rightKey, ruleKey, numberLine, sideLine, Rules, rulesAre, badAt, rightThen, leftThen, varsThen, ruleThen, ruleRead, behind, thenRules, rulesRead}
+use Rattle.text.specs.BookText.{bookLine, rulesKey, numberText, keyed, varsKey, leftKey, rightKey, ruleKey, numberLine, sideLine, Rules, rulesAre, badAt, rightThen, leftThen, varsThen, ruleThen, ruleRead, behind, thenRules, rulesRead, countThen, bookThen, bookRead}
+use Rattle.text.proofs.BookLines.{number-line-is}
 use Rattle.text.proofs.KindTexts.{decimal-short}
 
 -- ---- a key and a number
@@ -62,6 +63,30 @@ rules-by last (suc more) number bs h =
     then-by last (rulesRead (suc number) more) (ruleRead number bs) (λ rest. rules-by last more (suc number) rest (omega arith))
     (rule-by last number (omega arith) (numberLine ruleKey 63 bs))
 
--- two lines and four for each rule stand there
-pub rules-bad : (count : ℕ) (bs : List ℕ) (line : ℕ) → rulesRead 0 count bs ≡ badAt line → line ≤ 4 * count + 2
-rules-bad count bs line e = rw e at (rules-by (4 * count + 2) count 0 bs (omega arith))
+-- ---- the lines of a book: its number of rules is its first word, and two lines and four for each rule stand there
+abbrev BookBy : Rules → Type 0
+BookBy (rulesAre ws rest) = (1 ≤ length ws) × (getD ws 0 0 ≤ 64)
+BookBy (badAt line) = line ≤ 258
+
+counted-by : (n : ℕ) → n ≤ 64 → (o : Rules) → BadBy (4 * n + 2) o → BookBy (behind (n ∷ []) o)
+counted-by n h (rulesAre ws rest) b = (omega arith, h)
+counted-by n h (badAt line) b = omega (arith, b)
+
+count-by : (bs : List ℕ) (o : Read ℕ) → numberLine rulesKey 64 bs ≡ o → BookBy (countThen o)
+count-by bs none e = omega arith
+count-by bs (some p) e =
+    counted-by (p .0) (number-line-is rulesKey 64 bs (p .0) (p .1) e .1) (rulesRead 0 (p .0) (p .1)) (rules-by (4 * p .0 + 2) (p .0) 0 (p .1) (omega arith))
+
+line-by : (o : Option (List ℕ)) → BookBy (bookThen o)
+line-by none = omega arith
+line-by (some bs) = count-by bs (numberLine rulesKey 64 bs) refl
+
+book-by : (bs : List ℕ) → BookBy (bookRead bs)
+unfolding bookRead
+book-by bs = line-by (keyed bookLine bs)
+
+pub book-counted : (bs ws rest : List ℕ) → bookRead bs ≡ rulesAre ws rest → (1 ≤ length ws) × (getD ws 0 0 ≤ 64)
+book-counted bs ws rest e = rw e at (book-by bs)
+
+pub book-bad : (bs : List ℕ) (line : ℕ) → bookRead bs ≡ badAt line → line ≤ 258
+book-bad bs line e = rw e at (book-by bs)

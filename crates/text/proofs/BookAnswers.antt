@@ -1,31 +1,44 @@
--- What reading a book answers and leaves, for each way through the code.
-use mathlib.Core.Path.{_≡_, refl, _∙_}
+-- What reading the lines of a book tells, and what reading a book answers and leaves, for each way through the code.
+use mathlib.Core.Path.{_≡_, refl, ap, _∙_}
 use mathlib.Core.List.{List, _∷_}
 use mathlib.Core.Option.{none, some}
-use Prim.Native.Nat.{ℕ, _+_, _*_, _≤_, _<_}
-use lib.ListN.{length, replicate, drop, drop-of-length-le}
+use Prim.Native.Nat.{ℕ, _+_, _≤_, _<_}
+use native.Mathlib.Omega.{arith}
+use lib.ListN.{length, replicate, drop, set, drop-of-length-le}
 use lib.Seq.{sets, drop-cons}
 use borrow.Author.Tests.{le-leb, lt-leb}
 use Rattle.term.specs.declared.answer.Answer.{Answer}
-use Rattle.term.specs.declared.answer.Answer.the-variants.{Done, BadText, BadBook, Short}
-use Rattle.term.specs.declared.check.Checked.{Checked}
-use Rattle.term.specs.declared.check.Checked.the-variants.{Good, Bad}
-use Rattle.term.proofs.Laws.{wrote, no-room}
-use Rattle.book.specs.Book.{checkBook}
-use Rattle.text.specs.TermText.{Said, says, badLine}
-use Rattle.text.specs.BookText.{bookLine, rulesKey, keyed, numberLine, rulesRead, rulesAre, badAt, bookSaid, bookGives, bookLeaves, readBookAnswer, readBookWords}
+use Rattle.term.specs.declared.answer.Answer.the-variants.{BadText}
+use Rattle.term.specs.Answer.{answered}
+use Rattle.book.specs.Accept.{accept}
+use Rattle.text.specs.declared.rule_text.Rules.the-variants as rules
+use Rattle.text.specs.Given.{givenAnswer, givenLeft}
+use Rattle.text.specs.TermText.{says, badLine}
+use Rattle.text.specs.BookText.{bookLine, rulesKey, keyed, numberLine, rulesRead, rulesAre, badAt, bookRead, dueAfter, bookSaid, readBookAnswer, readBookWords, readBookCame, readBookGives}
+use Rattle.text.specs.told.BookTold.{RulesTold}
+use Rattle.text.proofs.Outcomes.{read-book-came}
 
--- ---- what is given, where k is how the words were judged
-module _ (room : ℕ) (bs : List ℕ) (k : Checked) where
-  pub given-short : (last : List ℕ) → k ≡ Good → room < length bs → last ≡ replicate room 0 → (Short ≡ bookGives room bs k) × (last ≡ bookLeaves room bs k)
-  given-short last e h z = rw (e, lt-leb (length bs) room h) (refl, z ∙ no-room room bs h .1)
+-- ---- the lines of a book from an offset on
+module _ (bs : List ℕ) (at : ℕ) where
+  pub no-book : keyed bookLine (drop at bs) ≡ none → bookRead (drop at bs) ≡ badAt 1
+  unfolding bookRead
+  no-book e = rw e
 
-  pub given-done : (zeros last : List ℕ) → k ≡ Good → length bs ≤ room → zeros ≡ replicate room 0 → last ≡ sets zeros 0 bs
-      → (Done ≡ bookGives room bs k) × (last ≡ bookLeaves room bs k)
-  given-done zeros last e h z s = rw (e, le-leb (length bs) room h) (refl, wrote room bs last h (s ∙ rw z) .1)
+  module _ (a : ℕ) (e : keyed bookLine (drop at bs) ≡ some (drop a bs)) where
+    pub no-count : numberLine rulesKey 64 (drop a bs) ≡ none → bookRead (drop at bs) ≡ badAt 2
+    unfolding bookRead
+    no-count q = rw (e, q)
 
-  pub given-bad : (at : ℕ) (last : List ℕ) → k ≡ Bad at → last ≡ replicate room 0 → (BadBook at ≡ bookGives room bs k) × (last ≡ bookLeaves room bs k)
-  given-bad at last e z = rw e (refl, z)
+    module _ (n b : ℕ) (q : numberLine rulesKey 64 (drop a bs) ≡ some (n, drop b bs)) where
+      pub no-rules : (line : ℕ) → rulesRead 0 n (drop b bs) ≡ badAt line → bookRead (drop at bs) ≡ badAt line
+      unfolding bookRead
+      no-rules line r = rw (e, q, r)
+
+      pub all-rules : (out mid done : List ℕ) (m next : ℕ) → mid ≡ set out 0 n → RulesTold (rulesRead 0 n) 8384 bs b 1 mid done (rules.Words m next)
+          → RulesTold bookRead 8385 bs at 0 out done (rules.Words (m + 1) next)
+      unfolding bookRead
+      all-rules out mid done m next s t =
+          (n ∷ t .0, rw (e, q, t .1), omega (arith, t .2), t .3 ∙ ap (λ (x : List ℕ). sets x 1 (t .0)) s, t .4, omega (arith, t .5))
 
 -- ---- what a text says
 module _ (bs : List ℕ) where
@@ -34,38 +47,26 @@ module _ (bs : List ℕ) where
   too-long h = rw (lt-leb (length bs) 65536 h)
 
   module _ (h : length bs ≤ 65536) where
-    pub no-book : keyed bookLine bs ≡ none → bookSaid bs ≡ badLine 1
+    pub bad-line : (line : ℕ) → bookRead bs ≡ badAt line → bookSaid bs ≡ badLine line
     unfolding bookSaid
-    no-book e = rw (le-leb (length bs) 65536 h, e)
+    bad-line line e = rw (le-leb (length bs) 65536 h, e)
 
-    module _ (a : ℕ) (e : keyed bookLine bs ≡ some (drop a bs)) where
-      pub no-count : numberLine rulesKey 64 (drop a bs) ≡ none → bookSaid bs ≡ badLine 2
+    module _ (ws : List ℕ) (next : ℕ) (e : bookRead bs ≡ rulesAre ws (drop next bs)) where
+      pub more-lines : next < length bs → bookSaid bs ≡ badLine (dueAfter ws)
       unfolding bookSaid
-      no-count q = rw (le-leb (length bs) 65536 h, e, q)
+      more-lines l = rw (le-leb (length bs) 65536 h, e, drop-cons bs next 0 l)
 
-      module _ (n b : ℕ) (q : numberLine rulesKey 64 (drop a bs) ≡ some (n, drop b bs)) where
-        pub no-rules : (at : ℕ) → rulesRead 0 n (drop b bs) ≡ badAt at → bookSaid bs ≡ badLine at
-        unfolding bookSaid
-        no-rules at r = rw (le-leb (length bs) 65536 h, e, q, r)
-
-        module _ (ws : List ℕ) (next : ℕ) (r : rulesRead 0 n (drop b bs) ≡ rulesAre ws (drop next bs)) where
-          pub more-lines : next < length bs → bookSaid bs ≡ badLine (4 * n + 3)
-          unfolding bookSaid
-          more-lines l = rw (le-leb (length bs) 65536 h, e, q, r, drop-cons bs next 0 l)
-
-          pub no-more : length bs ≤ next → bookSaid bs ≡ says (n ∷ ws)
-          unfolding bookSaid
-          no-more l = rw (le-leb (length bs) 65536 h, e, q, r, drop-of-length-le bs {i = next} l)
+      pub no-more : length bs ≤ next → bookSaid bs ≡ says ws
+      unfolding bookSaid
+      no-more l = rw (le-leb (length bs) 65536 h, e, drop-of-length-le bs {i = next} l)
 
 -- ---- what is answered
-pub answer-bad : (room : ℕ) (said : Said) (at : ℕ) (last : List ℕ) → said ≡ badLine at → last ≡ replicate room 0
-    → (BadText at ≡ readBookAnswer room said) × (last ≡ readBookWords room said)
+pub answer-bad : (room : ℕ) (bs : List ℕ) (at : ℕ) (last : List ℕ) → bookSaid bs ≡ badLine at → last ≡ replicate room 0 → readBookCame (answered (BadText at)) last ≡ readBookGives bs room
 unfolding readBookAnswer readBookWords
-answer-bad room said at last e z = rw e (refl, z)
+answer-bad room bs at last e z = read-book-came bs room (BadText at) last (rw e (refl, z))
 
 -- the words vs, where they are what the text says, are given as they are judged
 pub read-given : (room : ℕ) (bs ws vs : List ℕ) (r : Answer) (last : List ℕ) → bookSaid bs ≡ says ws → vs ≡ ws
-    → (r ≡ bookGives room vs (checkBook vs)) × (last ≡ bookLeaves room vs (checkBook vs))
-    → (r ≡ readBookAnswer room (bookSaid bs)) × (last ≡ readBookWords room (bookSaid bs))
+    → (r ≡ givenAnswer room vs (accept vs)) × (last ≡ givenLeft room vs (accept vs)) → readBookCame (answered r) last ≡ readBookGives bs room
 unfolding readBookAnswer readBookWords
-read-given room bs ws vs r last e v g = rw e (rw v at g)
+read-given room bs ws vs r last e v g = read-book-came bs room r last (rw e (rw v at g))

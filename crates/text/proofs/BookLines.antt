@@ -8,10 +8,10 @@ use lib.Dec.{eqb}
 use lib.ListN.{length}
 use borrow.Author.Tests.{eqb-true, eq-eqb}
 use Rattle.term.specs.Word.{pick}
-use Rattle.text.specs.Number.{decimal, number, isDigit, ends, Read}
+use Rattle.text.specs.Number.{decimal, number, isDigit, Read}
 use Rattle.text.specs.Line.{lineText, line}
 use Rattle.text.specs.BookText.{numberText, sideText, keyed, afterKey, numberEnd, numberThen, numberLine, sideLine}
-use Rattle.text.proofs.Numbers.{number-back, number-is}
+use Rattle.text.proofs.Numbers.{ends, number-back, number-is}
 use Rattle.text.proofs.Lines.{Known, line-back, line-is}
 
 -- ---- keys

@@ -16,8 +16,8 @@ use Rattle.book.specs.Book.{Rule, ruleOf, judged, goodNext, afterNext, judge, c
 use Rattle.book.specs.Rule.{sideLimits, goodRule}
 use Rattle.book.proofs.Laws.{good-facts, words-rule, rule-words, judge-over, judge-next, check-empty, check-counted}
 use Rattle.text.specs.Number.{Read}
-use Rattle.text.specs.TermText.{Said, says, badLine, atEnd}
-use Rattle.text.specs.BookText.{bookLine, rulesKey, ruleKey, varsKey, leftKey, rightKey, numberText, sideText, ruleText, nextText, rulesText, bookText, keyed, numberLine, sideLine, ruleWords, Rules, rulesAre, badAt, rightThen, leftThen, varsThen, ruleThen, ruleRead, behind, thenRules, rulesRead, allRules, countThen, bookThen, bookSaid}
+use Rattle.text.specs.TermText.{Said, says, badLine}
+use Rattle.text.specs.BookText.{bookLine, rulesKey, ruleKey, varsKey, leftKey, rightKey, numberText, sideText, ruleText, nextText, rulesText, bookText, keyed, numberLine, sideLine, ruleWords, Rules, rulesAre, badAt, rightThen, leftThen, varsThen, ruleThen, ruleRead, behind, thenRules, rulesRead, countThen, bookThen, bookRead, bookAlone, bookSaid}
 use Rattle.text.proofs.Lines.{Known}
 use Rattle.text.proofs.Rounds.{known-words, some-words}
 use Rattle.text.proofs.BookLines.{key-back, key-is, number-line-back, number-line-is, side-line-back, side-line-is}
@@ -66,7 +66,7 @@ rules-back zero number (w ∷ ws) h g = never (let z = judge-over number w ws in
 rules-back (suc more) number ws h g = next-back number more ws (λ vs k. rules-back more (suc number) vs (omega arith) k) (omega arith) (ruleOf ws) refl (sym (judge-next number more ws) ∙ g)
 
 pub book-said : (ws : List ℕ) → checkBook ws ≡ Good → length (bookText ws) ≤ 65536 → bookSaid (bookText ws) ≡ says ws
-unfolding bookSaid bookText
+unfolding bookSaid bookRead bookText
 book-said [] g h = never (let z = check-empty in cc)
 book-said (n ∷ ws) g h = go (ltb 64 n) refl (sym (check-counted n ws) ∙ g)
   where
@@ -154,34 +154,46 @@ unfolding rulesRead rulesText
 rules-are zero number bs = refl
 rules-are (suc more) number bs = then-are number more bs (λ after. rules-are more (suc number) after) (ruleRead number bs) (rule-read-are number bs)
 
+abbrev BookReadIs : List ℕ → Rules → Type 0
+BookReadIs bs (rulesAre ws rest) = bs ≡ bookText ws ++ rest
+BookReadIs bs (badAt at) = Unit {0}
+
+counted-are : (n : ℕ) (bs after : List ℕ) → bs ≡ bookLine ++ numberText rulesKey n after → (o : Rules) → RulesReadIs 0 n after o → BookReadIs bs (behind (n ∷ []) o)
+unfolding bookText
+counted-are n bs after e (rulesAre ws rest) t =
+    e
+    ∙ ap (λ (x : List ℕ). bookLine ++ numberText rulesKey n x) t
+    ∙ ap (λ (x : List ℕ). bookLine ++ x) (sym (number-text-more rulesKey n (rulesText 0 n ws) rest))
+counted-are n bs after e (badAt at) t = tt
+
+count-are : (bs after : List ℕ) → bs ≡ bookLine ++ after → (o : Read ℕ) → numberLine rulesKey 64 after ≡ o → BookReadIs bs (countThen o)
+count-are bs after e none q = tt
+count-are bs after e (some p) q =
+    counted-are (p .0) bs (p .1) (e ∙ ap (λ (x : List ℕ). bookLine ++ x) (number-line-is rulesKey 64 after (p .0) (p .1) q .0)) (rulesRead 0 (p .0) (p .1)) (rules-are (p .0) 0 (p .1))
+
+book-are : (bs : List ℕ) (o : Option (List ℕ)) → keyed bookLine bs ≡ o → BookReadIs bs (bookThen o)
+book-are bs none q = tt
+book-are bs (some after) q = count-are bs after (key-is bookLine bs after q) (numberLine rulesKey 64 after) refl
+
+book-read-are : (bs : List ℕ) → BookReadIs bs (bookRead bs)
+unfolding bookRead
+book-read-are bs = book-are bs (keyed bookLine bs) refl
+
 abbrev SaidBy : List ℕ → Said → Type 0
 SaidBy bs (says ws) = bs ≡ bookText ws
 SaidBy bs (badLine at) = Unit {0}
 
-end-are : (n : ℕ) (bs ws rest : List ℕ) → bs ≡ bookLine ++ numberText rulesKey n (rulesText 0 n ws ++ rest) → SaidBy bs (atEnd (4 * n + 3) (n ∷ ws) rest)
-unfolding bookText
-end-are n bs ws [] e = rw append-nil at e
-end-are n bs ws (b ∷ rest) e = tt
-
-all-are : (n : ℕ) (bs after : List ℕ) → bs ≡ bookLine ++ numberText rulesKey n after → (o : Rules) → RulesReadIs 0 n after o → SaidBy bs (allRules n o)
-all-are n bs after e (rulesAre ws rest) t = end-are n bs ws rest (rw t at e)
-all-are n bs after e (badAt at) t = tt
-
-count-are : (bs after : List ℕ) → bs ≡ bookLine ++ after → (o : Read ℕ) → numberLine rulesKey 64 after ≡ o → SaidBy bs (countThen o)
-count-are bs after e none q = tt
-count-are bs after e (some p) q =
-    all-are (p .0) bs (p .1) (e ∙ ap (λ (x : List ℕ). bookLine ++ x) (number-line-is rulesKey 64 after (p .0) (p .1) q .0)) (rulesRead 0 (p .0) (p .1)) (rules-are (p .0) 0 (p .1))
-
-book-are : (bs : List ℕ) (o : Option (List ℕ)) → keyed bookLine bs ≡ o → SaidBy bs (bookThen o)
-book-are bs none q = tt
-book-are bs (some after) q = count-are bs after (key-is bookLine bs after q) (numberLine rulesKey 64 after) refl
+alone-are : (bs : List ℕ) (o : Rules) → BookReadIs bs o → SaidBy bs (bookAlone o)
+alone-are bs (rulesAre ws []) e = e ∙ append-nil (bookText ws)
+alone-are bs (rulesAre ws (b ∷ rest)) e = tt
+alone-are bs (badAt at) e = tt
 
 said-by : (bs : List ℕ) → SaidBy bs (bookSaid bs)
 unfolding bookSaid
 said-by bs = go (leb (length bs) 65536)
   where
-    go : (b : Bool) → SaidBy bs (pick b (bookThen (keyed bookLine bs)) (badLine 0))
-    go true = book-are bs (keyed bookLine bs) refl
+    go : (b : Bool) → SaidBy bs (pick b (bookAlone (bookRead bs)) (badLine 0))
+    go true = alone-are bs (bookRead bs) (book-read-are bs)
     go false = tt
 
 -- a text over 65,536 bytes says nothing
@@ -189,7 +201,7 @@ pub book-bytes : (bs ws : List ℕ) → bookSaid bs ≡ says ws → length bs �
 unfolding bookSaid
 book-bytes bs ws e = go (leb (length bs) 65536) refl e
   where
-    go : (b : Bool) → leb (length bs) 65536 ≡ b → pick b (bookThen (keyed bookLine bs)) (badLine 0) ≡ says ws → length bs ≤ 65536
+    go : (b : Bool) → leb (length bs) 65536 ≡ b → pick b (bookAlone (bookRead bs)) (badLine 0) ≡ says ws → length bs ≤ 65536
     go true q z = leb-true (length bs) 65536 q
     go false q z = never (cc)
 

@@ -10,20 +10,25 @@ use lib.Dec.{ltb}
 use lib.ListN.{length, replicate, getD, take, drop, set, length-append, length-drop}
 use lib.Seq.{sets, take-suc, length-take-le, drop-drop, getD-drop, take-at, drop-at}
 use borrow.Author.Tests.{le-leb, lt-leb, ltb-false}
-use Rattle.term.specs.declared.answer.Answer.the-variants.{Done, BadBook, Short}
-use Rattle.term.specs.declared.check.Checked.{Checked}
+use Rattle.term.specs.declared.answer.Answer.{Answer}
+use Rattle.term.specs.declared.answer.Answer.the-variants.{Done, Short}
 use Rattle.term.specs.declared.check.Checked.the-variants.{Good, Bad}
+use Rattle.term.specs.Answer.{answered}
 use Rattle.term.specs.Word.{pick}
 use Rattle.term.proofs.Laws.{never, wrote, no-room}
 use Rattle.book.specs.Book.{Rule, ruleOf, judged, goodNext, afterNext, judge, checkBook}
 use Rattle.book.specs.Rule.{goodRule}
+use Rattle.book.specs.declared.accept.Accepted.{Accepted}
+use Rattle.book.specs.declared.accept.Accepted.the-variants.{Sound, Refused}
+use Rattle.book.specs.Accept.{accept}
 use Rattle.book.proofs.Laws.{good-facts, judge-next, check-empty, check-counted}
 use Rattle.text.specs.Number.{decimal}
 use Rattle.text.specs.Line.{lineText}
-use Rattle.text.specs.BookText.{bookLine, rulesKey, ruleKey, varsKey, leftKey, rightKey, numberText, sideText, ruleText, rulesText, bookText, ruleWords, textGives, textLeaves}
+use Rattle.text.specs.BookText.{bookLine, rulesKey, ruleKey, varsKey, leftKey, rightKey, numberText, sideText, ruleText, rulesText, bookText, ruleWords, textGives, textLeaves, writeBookAnswer, writeBookBytes, writeBookCame, writeBookGives}
 use Rattle.text.proofs.KindTexts.{decimal-short}
 use Rattle.text.proofs.Rounds.{line-short}
 use Rattle.text.proofs.BookRounds.{side-facts, number-text-more, side-text-more, rule-text-more}
+use Rattle.text.proofs.Outcomes.{write-book-came}
 use Rattle.text.proofs.Wrote.{Wrote, wrote-then, wrote-byte, word-after}
 
 -- ---- lines
@@ -151,16 +156,21 @@ book-parts [] h = absurd (omega arith)
 book-parts (n ∷ ws) h = ap (λ (x : List ℕ). bookLine ++ x) (sym (number-text-more rulesKey n [] (rulesText 0 n ws)))
 
 -- ---- what is answered
-module _ (room : ℕ) (text : List ℕ) (k : Checked) where
-  pub text-over : (last : List ℕ) → k ≡ Good → 65536 < length text → last ≡ replicate room 0 → (Short ≡ textGives room text k) × (last ≡ textLeaves room text k)
+module _ (room : ℕ) (text : List ℕ) (k : Accepted) where
+  pub text-over : (last : List ℕ) → k ≡ Sound → 65536 < length text → last ≡ replicate room 0 → (Short ≡ textGives room text k) × (last ≡ textLeaves room text k)
   text-over last e h z = rw (e, lt-leb (length text) 65536 h) (refl, z)
 
-  pub text-short : (last : List ℕ) → k ≡ Good → length text ≤ 65536 → room < length text → last ≡ replicate room 0 → (Short ≡ textGives room text k) × (last ≡ textLeaves room text k)
+  pub text-short : (last : List ℕ) → k ≡ Sound → length text ≤ 65536 → room < length text → last ≡ replicate room 0 → (Short ≡ textGives room text k) × (last ≡ textLeaves room text k)
   text-short last e l h z = rw (e, le-leb (length text) 65536 l, lt-leb (length text) room h) (refl, z ∙ no-room room text h .1)
 
-  pub text-done : (zeros last : List ℕ) → k ≡ Good → length text ≤ 65536 → length text ≤ room → zeros ≡ replicate room 0 → last ≡ sets zeros 0 text
+  pub text-done : (zeros last : List ℕ) → k ≡ Sound → length text ≤ 65536 → length text ≤ room → zeros ≡ replicate room 0 → last ≡ sets zeros 0 text
       → (Done ≡ textGives room text k) × (last ≡ textLeaves room text k)
   text-done zeros last e l h z s = rw (e, le-leb (length text) 65536 l, le-leb (length text) room h) (refl, wrote room text last h (s ∙ rw z) .1)
 
-  pub text-bad : (at : ℕ) (last : List ℕ) → k ≡ Bad at → last ≡ replicate room 0 → (BadBook at ≡ textGives room text k) × (last ≡ textLeaves room text k)
-  text-bad at last e z = rw e (refl, z)
+  pub text-bad : (a : Answer) (last : List ℕ) → k ≡ Refused a → last ≡ replicate room 0 → (a ≡ textGives room text k) × (last ≡ textLeaves room text k)
+  text-bad a last e z = rw e (refl, z)
+
+pub write-given : (room : ℕ) (book : List ℕ) (r : Answer) (last : List ℕ)
+    → (r ≡ textGives room (bookText book) (accept book)) × (last ≡ textLeaves room (bookText book) (accept book)) → writeBookCame (answered r) last ≡ writeBookGives book room
+unfolding writeBookAnswer writeBookBytes
+write-given room book r last g = write-book-came book room r last g

@@ -11,7 +11,7 @@ use borrow.Author.Tests.{le-leb, lt-leb, eq-eqb, ne-eqb}
 use Rattle.text.specs.declared.number.Number.{Number}
 use Rattle.text.specs.declared.number.Number.the-variants as numbers
 use Rattle.text.specs.Number.{isDigit, Read, digits, number}
-use Rattle.text.specs.Told.{DigitsTold, NumberTold}
+use Rattle.text.specs.told.Told.{DigitsTold, NumberTold}
 
 module _ (most : ℕ) (bs : List ℕ) where
   -- what is left of the digits that began at `at`

@@ -12,9 +12,9 @@ use Rattle.text.specs.declared.key.Key.the-variants as keys
 use Rattle.text.specs.declared.line.Line.{Line}
 use Rattle.text.specs.declared.line.Line.the-variants as lines
 use Rattle.text.specs.declared.number.Number.the-variants as numbers
-use Rattle.text.specs.Told.{NumberTold, LineTold}
+use Rattle.text.specs.told.Told.{NumberTold, LineTold}
 use Rattle.text.specs.BookText.{keyed, numberLine, sideLine}
-use Rattle.text.specs.BookTold.{KeyTold, NumberLineTold, SideTold}
+use Rattle.text.specs.told.BookTold.{KeyTold, NumberLineTold, SideTold}
 
 module _ (key bs : List ℕ) (at : ℕ) where
   -- what is left of the key

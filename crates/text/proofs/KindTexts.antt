@@ -1,4 +1,4 @@
--- The token of a word by its kind: a head of the table has its word's id and count.
+-- The token of a word by its rank: a head of the table has its word's id and count.
 use mathlib.Core.Path.{_≡_, refl, sym, ap, _∙_}
 use mathlib.Core.List.{[], _∷_}
 use mathlib.Core.Option.{Option, none, some}
@@ -6,8 +6,8 @@ use Prim.Native.Nat.{ℕ, zero, suc, _+_, _*_, _/_, _≤_, _<_}
 use native.Mathlib.Omega.{arith}
 use lib.ListN.{length, length-append}
 use Rattle.term.specs.Word.{Head, symbol, abstraction, variable, pattern, count, ident, InTable, countOf, identOf, headOf}
-use Rattle.term.specs.Check.{kindOr}
-use Rattle.term.proofs.Laws.{head-is, count-word, ident-word, kind-symbol, kind-abstraction, kind-variable, kind-pattern, count-symbol, count-pattern, ident-symbol, ident-variable, ident-pattern, symbol-few, variable-id, pattern-few}
+use Rattle.term.specs.Check.{rankOr}
+use Rattle.term.proofs.Laws.{head-is, count-word, ident-word, rank-symbol, rank-abstraction, rank-variable, rank-pattern, count-symbol, count-pattern, ident-symbol, ident-variable, ident-pattern, symbol-few, variable-id, pattern-few}
 use Rattle.text.specs.Number.{decimal}
 use Rattle.text.specs.Token.{dotted, tokenText, tokenO, wordText}
 use Rattle.text.proofs.Numbers.{decimal-one, decimal-more}
@@ -19,60 +19,60 @@ module _ (w : ℕ) where
   count-is : (h : Head) → headOf w ≡ some h → count h ≡ countOf w
   count-is h e = let k = head-is w h e in sym (count-word h (k .1)) ∙ ap (λ (x : ℕ). countOf x) (k .0)
 
-  pub symbol-text : kindOr 4 (headOf w) ≡ 0 → wordText w ≡ 115 ∷ dotted (identOf w) (countOf w)
+  pub symbol-text : rankOr 4 (headOf w) ≡ 0 → wordText w ≡ 115 ∷ dotted (identOf w) (countOf w)
   unfolding wordText tokenText
   symbol-text e = go (headOf w) refl e
     where
-      go : (o : Option Head) → headOf w ≡ o → kindOr 4 o ≡ 0 → tokenO o ≡ 115 ∷ dotted (identOf w) (countOf w)
+      go : (o : Option Head) → headOf w ≡ o → rankOr 4 o ≡ 0 → tokenO o ≡ 115 ∷ dotted (identOf w) (countOf w)
       go none q z = absurd (omega arith)
       go (some (symbol i c)) q z = rw (← ident-is (symbol i c) q, ← count-is (symbol i c) q, ident-symbol i c, count-symbol i c)
-      go (some abstraction) q z = absurd (omega (arith, kind-abstraction))
-      go (some (variable i)) q z = absurd (omega (arith, kind-variable i))
-      go (some (pattern i c)) q z = absurd (omega (arith, kind-pattern i c))
+      go (some abstraction) q z = absurd (omega (arith, rank-abstraction))
+      go (some (variable i)) q z = absurd (omega (arith, rank-variable i))
+      go (some (pattern i c)) q z = absurd (omega (arith, rank-pattern i c))
 
-  pub abstraction-text : kindOr 4 (headOf w) ≡ 1 → wordText w ≡ 108 ∷ []
+  pub abstraction-text : rankOr 4 (headOf w) ≡ 1 → wordText w ≡ 108 ∷ []
   unfolding wordText tokenText
   abstraction-text e = go (headOf w) e
     where
-      go : (o : Option Head) → kindOr 4 o ≡ 1 → tokenO o ≡ 108 ∷ []
+      go : (o : Option Head) → rankOr 4 o ≡ 1 → tokenO o ≡ 108 ∷ []
       go none z = absurd (omega arith)
-      go (some (symbol i c)) z = absurd (omega (arith, kind-symbol i c))
+      go (some (symbol i c)) z = absurd (omega (arith, rank-symbol i c))
       go (some abstraction) z = refl
-      go (some (variable i)) z = absurd (omega (arith, kind-variable i))
-      go (some (pattern i c)) z = absurd (omega (arith, kind-pattern i c))
+      go (some (variable i)) z = absurd (omega (arith, rank-variable i))
+      go (some (pattern i c)) z = absurd (omega (arith, rank-pattern i c))
 
-  pub variable-text : kindOr 4 (headOf w) ≡ 2 → wordText w ≡ 118 ∷ decimal (identOf w)
+  pub variable-text : rankOr 4 (headOf w) ≡ 2 → wordText w ≡ 118 ∷ decimal (identOf w)
   unfolding wordText tokenText
   variable-text e = go (headOf w) refl e
     where
-      go : (o : Option Head) → headOf w ≡ o → kindOr 4 o ≡ 2 → tokenO o ≡ 118 ∷ decimal (identOf w)
+      go : (o : Option Head) → headOf w ≡ o → rankOr 4 o ≡ 2 → tokenO o ≡ 118 ∷ decimal (identOf w)
       go none q z = absurd (omega arith)
-      go (some (symbol i c)) q z = absurd (omega (arith, kind-symbol i c))
-      go (some abstraction) q z = absurd (omega (arith, kind-abstraction))
+      go (some (symbol i c)) q z = absurd (omega (arith, rank-symbol i c))
+      go (some abstraction) q z = absurd (omega (arith, rank-abstraction))
       go (some (variable i)) q z = rw (← ident-is (variable i) q, ident-variable i)
-      go (some (pattern i c)) q z = absurd (omega (arith, kind-pattern i c))
+      go (some (pattern i c)) q z = absurd (omega (arith, rank-pattern i c))
 
-  pub pattern-text : kindOr 4 (headOf w) ≡ 3 → wordText w ≡ 109 ∷ dotted (identOf w) (countOf w)
+  pub pattern-text : rankOr 4 (headOf w) ≡ 3 → wordText w ≡ 109 ∷ dotted (identOf w) (countOf w)
   unfolding wordText tokenText
   pattern-text e = go (headOf w) refl e
     where
-      go : (o : Option Head) → headOf w ≡ o → kindOr 4 o ≡ 3 → tokenO o ≡ 109 ∷ dotted (identOf w) (countOf w)
+      go : (o : Option Head) → headOf w ≡ o → rankOr 4 o ≡ 3 → tokenO o ≡ 109 ∷ dotted (identOf w) (countOf w)
       go none q z = absurd (omega arith)
-      go (some (symbol i c)) q z = absurd (omega (arith, kind-symbol i c))
-      go (some abstraction) q z = absurd (omega (arith, kind-abstraction))
-      go (some (variable i)) q z = absurd (omega (arith, kind-variable i))
+      go (some (symbol i c)) q z = absurd (omega (arith, rank-symbol i c))
+      go (some abstraction) q z = absurd (omega (arith, rank-abstraction))
+      go (some (variable i)) q z = absurd (omega (arith, rank-variable i))
       go (some (pattern i c)) q z = rw (← ident-is (pattern i c) q, ← count-is (pattern i c) q, ident-pattern i c, count-pattern i c)
 
-  pub no-text : (kindOr 4 (headOf w) ≡ 0 → ⊥) → (kindOr 4 (headOf w) ≡ 1 → ⊥) → (kindOr 4 (headOf w) ≡ 2 → ⊥) → (kindOr 4 (headOf w) ≡ 3 → ⊥) → wordText w ≡ []
+  pub no-text : (rankOr 4 (headOf w) ≡ 0 → ⊥) → (rankOr 4 (headOf w) ≡ 1 → ⊥) → (rankOr 4 (headOf w) ≡ 2 → ⊥) → (rankOr 4 (headOf w) ≡ 3 → ⊥) → wordText w ≡ []
   unfolding wordText tokenText
   no-text s l v m = go (headOf w) s l v m
     where
-      go : (o : Option Head) → (kindOr 4 o ≡ 0 → ⊥) → (kindOr 4 o ≡ 1 → ⊥) → (kindOr 4 o ≡ 2 → ⊥) → (kindOr 4 o ≡ 3 → ⊥) → tokenO o ≡ []
+      go : (o : Option Head) → (rankOr 4 o ≡ 0 → ⊥) → (rankOr 4 o ≡ 1 → ⊥) → (rankOr 4 o ≡ 2 → ⊥) → (rankOr 4 o ≡ 3 → ⊥) → tokenO o ≡ []
       go none a b c d = refl
-      go (some (symbol i k)) a b c d = absurd (a (kind-symbol i k))
-      go (some abstraction) a b c d = absurd (b kind-abstraction)
-      go (some (variable i)) a b c d = absurd (c (kind-variable i))
-      go (some (pattern i k)) a b c d = absurd (d (kind-pattern i k))
+      go (some (symbol i k)) a b c d = absurd (a (rank-symbol i k))
+      go (some abstraction) a b c d = absurd (b rank-abstraction)
+      go (some (variable i)) a b c d = absurd (c (rank-variable i))
+      go (some (pattern i k)) a b c d = absurd (d (rank-pattern i k))
 
 -- ---- a token has at most 12 bytes
 longer : (m k : ℕ) → ((n : ℕ) → n < m → length (decimal n) ≤ k) → (n : ℕ) → n < 10 * m → length (decimal n) ≤ k + 1

@@ -1,7 +1,7 @@
 -- What a crate above may cite of this one, and nothing else.
 
 -- Numbers and tokens: what is written is read back before what cannot continue it, and what was read is what is written of it.
-pub use Rattle.text.proofs.Numbers.{number-back, number-is}
+pub use Rattle.text.proofs.Numbers.{ends, number-back, number-is}
 pub use Rattle.text.proofs.Tokens.{token-back, token-is, word-text, word-back}
 -- Lines of tokens, both ways.
 pub use Rattle.text.proofs.Lines.{Known, ends-rest, line-back, LineWas, line-is}
@@ -17,15 +17,17 @@ pub use Rattle.text.proofs.Answers.{read-bad-book-line, read-bad-book, 
 pub use Rattle.text.proofs.Answers.{write-bad-book, write-long-book, write-good-book, write-short-book, write-book-done, write-book-zeros}
 -- One meaning has one text: what is written and read again, and what is read and written again.
 pub use Rattle.text.proofs.Inverse.{TermWrittenRead, term-written-read, TermReadWritten, term-read-written, BookWrittenRead, book-written-read, BookReadWritten, book-read-written, one-term-read, one-book-read}
+-- A term is accepted just where it is good.
+pub use Rattle.text.proofs.Givens.{good-term, bad-term, sound-term}
 -- Good words end by themselves.
 pub use Rattle.text.proofs.Fronts.{term-ends, term-front, book-front}
 -- What reading from an offset tells settles its answer.
 pub use Rattle.text.proofs.ToldSettled.{number-settled, token-settled, key-settled, line-settled, side-settled, rules-settled}
--- Two results that meet one promise are equal.
-pub use Rattle.text.proofs.Settled.{ReadTermPromised, read-term-settled, WriteTermPromised, write-term-settled, ReadBookPromised, read-book-settled, WriteBookPromised, write-book-settled}
--- A line of a key and a number before what follows it, its length, and the last line that can be bad among those of the rules.
-pub use Rattle.text.proofs.Above.{number-text-before, number-text-short, rules-bad}
--- What is written one after the other is written as one; words that were put into a slice are its first, also behind their number.
+-- All that comes back, as an answer and what is left, both ways.
+pub use Rattle.text.proofs.Outcomes.{read-term-gives, read-term-said, read-term-came, read-term-told, write-term-gives, write-term-said, write-term-came, write-term-told}
+pub use Rattle.text.proofs.Outcomes.{read-book-gives, read-book-said, read-book-came, read-book-told, write-book-gives, write-book-said, write-book-came, write-book-told}
+-- A line of a key and a number before what follows it, and its length; of a book's lines, the number of its rules and the last that can be bad.
+pub use Rattle.text.proofs.Above.{number-text-before, number-text-short, book-counted, book-bad}
+-- What is written one after the other is written as one; words that were put into a slice are its first.
 pub use Rattle.text.proofs.Wrote.{Wrote, wrote-then}
 pub use Rattle.text.proofs.TermTexts.{first-words}
-pub use Rattle.text.proofs.RuleSteps.{counted-words}

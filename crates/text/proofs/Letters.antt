@@ -15,7 +15,7 @@ use Rattle.text.specs.declared.token.Token.{Token}
 use Rattle.text.specs.declared.token.Token.the-variants as tokens
 use Rattle.text.specs.Number.{Read}
 use Rattle.text.specs.Token.{dottedRead, token}
-use Rattle.text.specs.Told.{NumberTold, DottedTold, VariableTold, TokenTold}
+use Rattle.text.specs.told.Told.{NumberTold, DottedTold, VariableTold, TokenTold}
 
 -- ---- an id, a dot and a count
 module _ (ids counts : ℕ) (bs : List ℕ) (at : ℕ) where

@@ -7,6 +7,7 @@ mod Letters
 mod Turns
 mod Wrote
 mod KindTexts
+mod Givens
 mod TermTexts
 mod Rounds
 mod BookLines
@@ -18,9 +19,9 @@ mod BookWrites
 mod BookTurns
 mod Computed
 mod Answers
+mod Outcomes
 mod Fronts
 mod Inverse
-mod Settled
 mod ToldSettled
 mod Above
 pub mod Laws

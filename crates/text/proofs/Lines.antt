@@ -10,9 +10,10 @@ use lib.ListN.{length}
 use borrow.Author.Tests.{eqb-true}
 use Rattle.term.specs.Word.{Head, pick, InTable, word, headOf}
 use Rattle.term.proofs.Laws.{head-word}
-use Rattle.text.specs.Number.{isDigit, Read, ends}
+use Rattle.text.specs.Number.{isDigit, Read}
 use Rattle.text.specs.Token.{wordText, tokenText, token}
 use Rattle.text.specs.Line.{restText, lineText, ahead, tokenEnd, tokenThen, line}
+use Rattle.text.proofs.Numbers.{ends}
 use Rattle.text.proofs.Tokens.{token-is, word-text, word-back}
 
 -- each word is in the table

@@ -10,7 +10,12 @@ use lib.ListN.{length, length-append}
 use borrow.Author.Tests.{ltb-true, ltb-false, leb-true, eqb-true, eqb-false, lt-ltb, le-ltb, le-leb, ne-eqb}
 use Rattle.term.specs.Word.{pick}
 use Rattle.term.proofs.Laws.{never, and-left, and-right}
-use Rattle.text.specs.Number.{decimalIn, decimal, isDigit, Read, digits, number, ends}
+use Rattle.text.specs.Number.{decimalIn, decimal, isDigit, Read, digits, number}
+
+-- the text goes on with no digit
+unfoldable pub ends : List ℕ → Bool
+ends [] = true
+ends (b ∷ bs) = pick (isDigit b) false true
 
 -- ---- digits
 pub digit-is : (b : ℕ) → isDigit b ≡ true → (48 ≤ b) × (b ≤ 57)

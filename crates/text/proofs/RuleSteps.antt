@@ -3,7 +3,7 @@ use mathlib.Core.Path.{_≡_, refl, sym, ap, _∙_}
 use mathlib.Core.List.{List, [], _∷_, _++_, append-assoc, append-nil}
 use Prim.Native.Nat.{ℕ, suc, _+_, _-_, _*_, _≤_, _<_}
 use native.Mathlib.Omega.{arith}
-use lib.ListN.{length, take, drop, set, length-append}
+use lib.ListN.{length, drop, set, length-append}
 use lib.Seq.{sets, set-comm}
 use borrow.Author.Tests.{eq-eqb, ne-eqb}
 use Rattle.text.specs.declared.line.Line.the-variants as lines
@@ -12,9 +12,8 @@ use Rattle.text.specs.declared.rule_text.Rules as declared
 use Rattle.text.specs.declared.rule_text.Rules.the-variants as rules
 use Rattle.text.specs.declared.rule_text.Vars.the-variants as vars
 use Rattle.text.specs.BookText.{ruleKey, varsKey, leftKey, rightKey, Rules, rulesAre, badAt, ruleRead, behind, thenRules, rulesRead}
-use Rattle.text.specs.BookTold.{NumberLineTold, SideTold, sidesRead, VarsTold, RulesTold}
+use Rattle.text.specs.told.BookTold.{NumberLineTold, SideTold, sidesRead, VarsTold, RulesTold}
 use Rattle.text.proofs.BookLines.{side-line-is}
-use Rattle.text.proofs.TermTexts.{first-words}
 use Rattle.text.proofs.Wrote.{sets-append}
 
 -- ---- the lines `rule=` and `vars=`
@@ -130,8 +129,3 @@ module _ (count : ℕ) (bs : List ℕ) (at : ℕ) where
 pub words-after : (ws vs out mid done : List ℕ) (n : ℕ) → length ws ≡ n → mid ≡ sets out 1 ws → done ≡ sets mid (n + 1) vs → done ≡ sets out 1 (ws ++ vs)
 words-after ws vs out mid done n l e d =
     let z : n + 1 ≡ 1 + length ws = omega arith in d ∙ rw (e, z) (sym (sets-append ws vs out 1))
-
--- the words of the rules behind their number
-pub counted-words : (work ws mid last : List ℕ) (n v : ℕ) → length ws ≡ n → mid ≡ sets work 1 ws → last ≡ set mid 0 v → n + 1 ≤ length work → take (n + 1) last ≡ v ∷ ws
-counted-words work ws mid last n v l e d h =
-    first-words work (v ∷ ws) last (n + 1) (d ∙ rw e (set-past ws work 1 0 v (omega arith))) (omega arith) h

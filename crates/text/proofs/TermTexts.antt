@@ -9,27 +9,14 @@ use lib.ListN.{length, replicate, take, drop, getD, drop-of-length-le}
 use lib.Seq.{sets, sets-eq, drop-cons, take-at}
 use borrow.Author.Tests.{le-leb, lt-leb}
 use Rattle.term.specs.declared.answer.Answer.{Answer}
-use Rattle.term.specs.declared.answer.Answer.the-variants.{Done, BadText, BadTerm, Short}
-use Rattle.term.specs.declared.check.Checked.{Checked}
-use Rattle.term.specs.declared.check.Checked.the-variants.{Good, Bad}
-use Rattle.term.specs.Check.{check, termLimits}
-use Rattle.term.proofs.Laws.{wrote, no-room}
+use Rattle.term.specs.declared.answer.Answer.the-variants.{BadText}
+use Rattle.term.specs.Answer.{answered}
+use Rattle.text.specs.Given.{givenAnswer, givenLeft}
 use Rattle.text.specs.Token.{wordText}
 use Rattle.text.specs.Line.{restText, lineText, line}
-use Rattle.text.specs.TermText.{Said, says, badLine, termSaid, termGives, termLeaves, readAnswer, readWords}
+use Rattle.text.specs.TermText.{says, badLine, termSaid, acceptTerm, readAnswer, readWords, writeAnswer, writeBytes, readTermCame, readTermGives, writeTermCame, writeTermGives}
 use Rattle.text.proofs.Lines.{line-is}
-
--- ---- what is given, where k is how the words were judged and bs is to be given
-module _ (room : ℕ) (bs : List ℕ) (k : Checked) where
-  pub given-short : (last : List ℕ) → k ≡ Good → room < length bs → last ≡ replicate room 0 → (Short ≡ termGives room bs k) × (last ≡ termLeaves room bs k)
-  given-short last e h z = rw (e, lt-leb (length bs) room h) (refl, z ∙ no-room room bs h .1)
-
-  pub given-done : (zeros last : List ℕ) → k ≡ Good → length bs ≤ room → zeros ≡ replicate room 0 → last ≡ sets zeros 0 bs
-      → (Done ≡ termGives room bs k) × (last ≡ termLeaves room bs k)
-  given-done zeros last e h z s = rw (e, le-leb (length bs) room h) (refl, wrote room bs last h (s ∙ rw z) .1)
-
-  pub given-bad : (at : ℕ) (last : List ℕ) → k ≡ Bad at → last ≡ replicate room 0 → (BadTerm at ≡ termGives room bs k) × (last ≡ termLeaves room bs k)
-  given-bad at last e z = rw e (refl, z)
+use Rattle.text.proofs.Outcomes.{read-term-came, write-term-came}
 
 -- ---- what a text says
 module _ (bs : List ℕ) where
@@ -52,17 +39,21 @@ module _ (bs : List ℕ) where
       line-alone l = rw (le-leb (length bs) 65536 h, e, drop-of-length-le bs {i = next} l)
 
 -- ---- what is answered
-module _ (room : ℕ) (said : Said) where
-  pub answer-bad : (at : ℕ) (last : List ℕ) → said ≡ badLine at → last ≡ replicate room 0 → (BadText at ≡ readAnswer room said) × (last ≡ readWords room said)
-  unfolding readAnswer readWords
-  answer-bad at last e z = rw e (refl, z)
+pub answer-bad : (room : ℕ) (bs : List ℕ) (at : ℕ) (last : List ℕ) → termSaid bs ≡ badLine at → last ≡ replicate room 0 → readTermCame (answered (BadText at)) last ≡ readTermGives bs room
+unfolding readAnswer readWords
+answer-bad room bs at last e z = read-term-came bs room (BadText at) last (rw e (refl, z))
 
 -- the words vs, where they are what the text says, are given as they are judged
 pub read-given : (room : ℕ) (bs ws vs : List ℕ) (r : Answer) (last : List ℕ) → termSaid bs ≡ says ws → vs ≡ ws
-    → (r ≡ termGives room vs (check termLimits vs)) × (last ≡ termLeaves room vs (check termLimits vs))
-    → (r ≡ readAnswer room (termSaid bs)) × (last ≡ readWords room (termSaid bs))
+    → (r ≡ givenAnswer room vs (acceptTerm vs)) × (last ≡ givenLeft room vs (acceptTerm vs)) → readTermCame (answered r) last ≡ readTermGives bs room
 unfolding readAnswer readWords
-read-given room bs ws vs r last e v g = rw e (rw v at g)
+read-given room bs ws vs r last e v g = read-term-came bs room r last (rw e (rw v at g))
+
+-- what is written of a term is its line
+pub write-given : (room : ℕ) (ws : List ℕ) (r : Answer) (last : List ℕ)
+    → (r ≡ givenAnswer room (lineText ws) (acceptTerm ws)) × (last ≡ givenLeft room (lineText ws) (acceptTerm ws)) → writeTermCame (answered r) last ≡ writeTermGives ws room
+unfolding writeAnswer writeBytes
+write-given room ws r last g = write-term-came ws room r last g
 
 -- the words that were put into a work area are its first
 pub first-words : (work ws done : List ℕ) (n : ℕ) → done ≡ sets work 0 ws → length ws ≡ n → n ≤ length work → take n done ≡ ws

@@ -8,9 +8,9 @@ use lib.Dec.{leb, eqb}
 use borrow.Author.Tests.{leb-true, eqb-true, le-leb}
 use Rattle.term.specs.Word.{Head, symbol, abstraction, variable, pattern, pick, InTable, word, headOf}
 use Rattle.term.proofs.Laws.{head-word, head-is, symbol-few, symbol-table, variable-id, id-variable, pattern-few, pattern-table, abstraction-in-table}
-use Rattle.text.specs.Number.{decimal, isDigit, Read, number, ends}
+use Rattle.text.specs.Number.{decimal, isDigit, Read, number}
 use Rattle.text.specs.Token.{dotted, tokenText, wordText, countRead, dotRead, identRead, dottedRead, variableRead, token}
-use Rattle.text.proofs.Numbers.{number-back, number-is}
+use Rattle.text.proofs.Numbers.{ends, number-back, number-is}
 
 ends-dot : (bs : List ℕ) → ends (46 ∷ bs) ≡ true
 unfolding ends isDigit

@@ -20,8 +20,8 @@ use Rattle.text.specs.declared.token.Token.the-variants as tokens
 use Rattle.text.specs.Number.{Read}
 use Rattle.text.specs.BookText.{sideLine, Rules, rulesAre, badAt}
 use Rattle.text.specs.Line.{line}
-use Rattle.text.specs.Told.{NumberIs, HeadIs, LineTold}
-use Rattle.text.specs.BookTold.{KeyTold, SideTold, RulesTold}
+use Rattle.text.specs.told.Told.{NumberIs, HeadIs, LineTold}
+use Rattle.text.specs.told.BookTold.{KeyTold, SideTold, RulesTold}
 use Rattle.text.proofs.Fronts.{same-read}
 
 same-end : (bs : List ℕ) (next other : ℕ) → next ≤ length bs → other ≤ length bs → drop next bs ≡ drop other bs → next ≡ other

@@ -12,7 +12,7 @@ use Rattle.text.specs.declared.token.Token.the-variants as tokens
 use Rattle.text.specs.Number.{Read}
 use Rattle.text.specs.Token.{token}
 use Rattle.text.specs.Line.{ahead, tokenEnd, tokenThen, line}
-use Rattle.text.specs.Told.{TokenTold}
+use Rattle.text.specs.told.Told.{TokenTold}
 
 ahead-ahead : (ws vs : List ℕ) (o : Read (List ℕ)) → ahead ws (ahead vs o) ≡ ahead (ws ++ vs) o
 ahead-ahead ws vs none = refl

@@ -4,40 +4,42 @@ use mathlib.Core.Bool.{Bool, true, false}
 use mathlib.Core.List.{List, [], _∷_, _++_}
 use mathlib.Core.Option.{Option, none, some}
 use lib.Dec.{leb, eqb}
-use lib.ListN.{length, replicate}
+use lib.ListN.{length, replicate, getD}
 use Rattle.term.specs.declared.answer.Answer.{Answer}
-use Rattle.term.specs.declared.answer.Answer.the-variants.{Done, BadText, BadBook, Short}
-use Rattle.term.specs.declared.check.Checked.{Checked}
-use Rattle.term.specs.declared.check.Checked.the-variants.{Good, Bad}
+use Rattle.term.specs.declared.answer.Answer.the-variants.{BadText, Short}
+use Rattle.term.specs.Answer.{Answered, answered}
 use Rattle.term.specs.Word.{pick}
-use Rattle.term.specs.Part.{padded}
-use Rattle.book.specs.Book.{Rule, ruleOf, afterNext, checkBook}
+use Rattle.book.specs.Book.{Rule, ruleOf, afterNext}
+use Rattle.book.specs.declared.accept.Accepted.{Accepted}
+use Rattle.book.specs.declared.accept.Accepted.the-variants.{Sound, Refused}
+use Rattle.book.specs.Accept.{accept}
+use Rattle.text.specs.Bytes.{byte, bytes}
+use Rattle.text.specs.Given.{givenAnswer, givenLeft}
 use Rattle.text.specs.Number.{decimal, number, Read}
 use Rattle.text.specs.Line.{lineText, line}
 use Rattle.text.specs.TermText.{Said, says, badLine, atEnd}
 
--- `book=1` and the end of its line; `rules=`, `rule=`, `vars=`, `left=`, `right=`
 abbrev pub bookLine : List ℕ
-bookLine = 98 ∷ 111 ∷ 111 ∷ 107 ∷ 61 ∷ 49 ∷ 10 ∷ []
+bookLine = bytes "book=1\n"
 
 abbrev pub rulesKey : List ℕ
-rulesKey = 114 ∷ 117 ∷ 108 ∷ 101 ∷ 115 ∷ 61 ∷ []
+rulesKey = bytes "rules="
 
 abbrev pub ruleKey : List ℕ
-ruleKey = 114 ∷ 117 ∷ 108 ∷ 101 ∷ 61 ∷ []
+ruleKey = bytes "rule="
 
 abbrev pub varsKey : List ℕ
-varsKey = 118 ∷ 97 ∷ 114 ∷ 115 ∷ 61 ∷ []
+varsKey = bytes "vars="
 
 abbrev pub leftKey : List ℕ
-leftKey = 108 ∷ 101 ∷ 102 ∷ 116 ∷ 61 ∷ []
+leftKey = bytes "left="
 
 abbrev pub rightKey : List ℕ
-rightKey = 114 ∷ 105 ∷ 103 ∷ 104 ∷ 116 ∷ 61 ∷ []
+rightKey = bytes "right="
 
 -- ---- the text of a book, each line before the text that follows it
 unfoldable pub numberText : List ℕ → ℕ → List ℕ → List ℕ
-numberText key n rest = key ++ (decimal n ++ (10 ∷ rest))
+numberText key n rest = key ++ (decimal n ++ (byte "\n" ∷ rest))
 
 unfoldable pub sideText : List ℕ → List ℕ → List ℕ → List ℕ
 sideText key ws rest = key ++ (lineText ws ++ rest)
@@ -72,7 +74,7 @@ afterKey reading (some bs) = reading bs
 
 abbrev pub numberEnd : ℕ → List ℕ → Read ℕ
 numberEnd n [] = none
-numberEnd n (b ∷ bs) = pick (eqb b 10) (some (n, bs)) none
+numberEnd n (b ∷ bs) = pick (eqb b (byte "\n")) (some (n, bs)) none
 
 abbrev pub numberThen : Read ℕ → Read ℕ
 numberThen none = none
@@ -128,49 +130,70 @@ unfoldable pub rulesRead : ℕ → ℕ → List ℕ → Rules
 rulesRead number zero bs = rulesAre [] bs
 rulesRead number (suc more) bs = thenRules (rulesRead (suc number) more) (ruleRead number bs)
 
-abbrev pub allRules : ℕ → Rules → Said
-allRules n (rulesAre ws rest) = atEnd (4 * n + 3) (n ∷ ws) rest
-allRules n (badAt at) = badLine at
+abbrev pub countThen : Read ℕ → Rules
+countThen none = badAt 2
+countThen (some p) = behind (p .0 ∷ []) (rulesRead 0 (p .0) (p .1))
 
-abbrev pub countThen : Read ℕ → Said
-countThen none = badLine 2
-countThen (some p) = allRules (p .0) (rulesRead 0 (p .0) (p .1))
-
-abbrev pub bookThen : Option (List ℕ) → Said
-bookThen none = badLine 1
+abbrev pub bookThen : Option (List ℕ) → Rules
+bookThen none = badAt 1
 bookThen (some bs) = countThen (numberLine rulesKey 64 bs)
 
+-- the words of the book that a text begins with and the text after it, or the first line that is not in form
+unfoldable pub bookRead : List ℕ → Rules
+bookRead bs = bookThen (keyed bookLine bs)
+
+-- the line due after a book: two lines and four for each rule stand before it
+abbrev pub dueAfter : List ℕ → ℕ
+dueAfter book = 4 * getD book 0 0 + 3
+
+abbrev pub bookAlone : Rules → Said
+bookAlone (rulesAre ws rest) = atEnd (dueAfter ws) ws rest
+bookAlone (badAt at) = badLine at
+
 unfoldable pub bookSaid : List ℕ → Said
-bookSaid bs = pick (leb (length bs) 65536) (bookThen (keyed bookLine bs)) (badLine 0)
+bookSaid bs = pick (leb (length bs) 65536) (bookAlone (bookRead bs)) (badLine 0)
 
 -- ---- answers, and what is left in a lent slice of `room`
-abbrev pub bookGives : ℕ → List ℕ → Checked → Answer
-bookGives room out Good = pick (leb (length out) room) Done Short
-bookGives room out (Bad at) = BadBook at
-
-abbrev pub bookLeaves : ℕ → List ℕ → Checked → List ℕ
-bookLeaves room out Good = padded room out
-bookLeaves room out (Bad at) = replicate room 0
-
 unfoldable pub readBookAnswer : ℕ → Said → Answer
-readBookAnswer room (says ws) = bookGives room ws (checkBook ws)
+readBookAnswer room (says ws) = givenAnswer room ws (accept ws)
 readBookAnswer room (badLine at) = BadText at
 
 unfoldable pub readBookWords : ℕ → Said → List ℕ
-readBookWords room (says ws) = bookLeaves room ws (checkBook ws)
+readBookWords room (says ws) = givenLeft room ws (accept ws)
 readBookWords room (badLine at) = replicate room 0
 
 -- a text over 65,536 bytes is not written, whatever the room
-abbrev pub textGives : ℕ → List ℕ → Checked → Answer
-textGives room text Good = pick (leb (length text) 65536) (pick (leb (length text) room) Done Short) Short
-textGives room text (Bad at) = BadBook at
+abbrev pub textGives : ℕ → List ℕ → Accepted → Answer
+textGives room text Sound = pick (leb (length text) 65536) (givenAnswer room text Sound) Short
+textGives room text (Refused a) = a
 
-abbrev pub textLeaves : ℕ → List ℕ → Checked → List ℕ
-textLeaves room text Good = pick (leb (length text) 65536) (padded room text) (replicate room 0)
-textLeaves room text (Bad at) = replicate room 0
+abbrev pub textLeaves : ℕ → List ℕ → Accepted → List ℕ
+textLeaves room text Sound = pick (leb (length text) 65536) (givenLeft room text Sound) (replicate room 0)
+textLeaves room text (Refused a) = replicate room 0
 
 unfoldable pub writeBookAnswer : ℕ → List ℕ → Answer
-writeBookAnswer room ws = textGives room (bookText ws) (checkBook ws)
+writeBookAnswer room ws = textGives room (bookText ws) (accept ws)
 
 unfoldable pub writeBookBytes : ℕ → List ℕ → List ℕ
-writeBookBytes room ws = textLeaves room (bookText ws) (checkBook ws)
+writeBookBytes room ws = textLeaves room (bookText ws) (accept ws)
+
+-- ---- all that comes back of reading, and of writing
+pub record ReadBookOutcome : Type 0 where
+  pub said : Answered
+  pub out : List ℕ
+
+abbrev pub readBookCame : Answered → List ℕ → ReadBookOutcome
+readBookCame said out = record { said = said; out = out }
+
+unfoldable pub readBookGives : (text : List ℕ) (room : ℕ) → ReadBookOutcome
+readBookGives text room = readBookCame (answered (readBookAnswer room (bookSaid text))) (readBookWords room (bookSaid text))
+
+pub record WriteBookOutcome : Type 0 where
+  pub said : Answered
+  pub out : List ℕ
+
+abbrev pub writeBookCame : Answered → List ℕ → WriteBookOutcome
+writeBookCame said out = record { said = said; out = out }
+
+unfoldable pub writeBookGives : (book : List ℕ) (room : ℕ) → WriteBookOutcome
+writeBookGives book room = writeBookCame (answered (writeBookAnswer room book)) (writeBookBytes room book)

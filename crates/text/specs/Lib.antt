@@ -1,7 +1,8 @@
+pub mod Bytes
+pub mod Given
 pub mod Number
 pub mod Token
 pub mod Line
-pub mod Told
 pub mod TermText
 pub mod BookText
-pub mod BookTold
+pub mod told

@@ -5,16 +5,17 @@ use mathlib.Core.List.{List, [], _∷_, _++_}
 use mathlib.Core.Option.{Option, none, some}
 use lib.Dec.{eqb}
 use Rattle.term.specs.Word.{Head, word, pick}
+use Rattle.text.specs.Bytes.{byte}
 use Rattle.text.specs.Number.{Read}
 use Rattle.text.specs.Token.{wordText, token}
 
 -- the tokens after the first, each behind its blank, and the end of the line
 unfoldable pub restText : List ℕ → List ℕ
-restText [] = 10 ∷ []
-restText (w ∷ ws) = 32 ∷ (wordText w ++ restText ws)
+restText [] = byte "\n" ∷ []
+restText (w ∷ ws) = byte " " ∷ (wordText w ++ restText ws)
 
 unfoldable pub lineText : List ℕ → List ℕ
-lineText [] = 10 ∷ []
+lineText [] = byte "\n" ∷ []
 lineText (w ∷ ws) = wordText w ++ restText ws
 
 -- ---- reading
@@ -25,7 +26,7 @@ ahead ws (some p) = some (ws ++ p .0, p .1)
 -- after a token with the word w: the end of the line, or a blank and the other tokens
 abbrev pub tokenEnd : (List ℕ → Read (List ℕ)) → ℕ → List ℕ → Read (List ℕ)
 tokenEnd others w [] = none
-tokenEnd others w (b ∷ bs) = pick (eqb b 10) (some (w ∷ [], bs)) (pick (eqb b 32) (ahead (w ∷ []) (others bs)) none)
+tokenEnd others w (b ∷ bs) = pick (eqb b (byte "\n")) (some (w ∷ [], bs)) (pick (eqb b (byte " ")) (ahead (w ∷ []) (others bs)) none)
 
 abbrev pub tokenThen : (List ℕ → Read (List ℕ)) → Read Head → Read (List ℕ)
 tokenThen others none = none

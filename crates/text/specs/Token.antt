@@ -5,18 +5,19 @@ use mathlib.Core.List.{List, [], _∷_, _++_}
 use mathlib.Core.Option.{Option, none, some}
 use lib.Dec.{leb, eqb}
 use Rattle.term.specs.Word.{Head, symbol, abstraction, variable, pattern, pick, headOf}
+use Rattle.text.specs.Bytes.{byte}
 use Rattle.text.specs.Number.{decimal, number, Read}
 
 -- `<id>.<count>`
 unfoldable pub dotted : ℕ → ℕ → List ℕ
-dotted i c = decimal i ++ (46 ∷ decimal c)
+dotted i c = decimal i ++ (byte "." ∷ decimal c)
 
 -- `s<id>.<count>`, `l`, `v<id>`, `m<id>.<count>`
 unfoldable pub tokenText : Head → List ℕ
-tokenText (symbol i c) = 115 ∷ dotted i c
-tokenText abstraction = 108 ∷ []
-tokenText (variable i) = 118 ∷ decimal i
-tokenText (pattern i c) = 109 ∷ dotted i c
+tokenText (symbol i c) = byte "s" ∷ dotted i c
+tokenText abstraction = byte "l" ∷ []
+tokenText (variable i) = byte "v" ∷ decimal i
+tokenText (pattern i c) = byte "m" ∷ dotted i c
 
 abbrev pub tokenO : Option Head → List ℕ
 tokenO none = []
@@ -33,7 +34,7 @@ countRead head i (some p) = some (head i (p .0), p .1)
 
 abbrev pub dotRead : (ℕ → ℕ → Head) → ℕ → ℕ → List ℕ → Read Head
 dotRead head counts i [] = none
-dotRead head counts i (b ∷ bs) = pick (eqb b 46) (countRead head i (number counts bs)) none
+dotRead head counts i (b ∷ bs) = pick (eqb b (byte ".")) (countRead head i (number counts bs)) none
 
 abbrev pub identRead : (ℕ → ℕ → Head) → ℕ → Read ℕ → Read Head
 identRead head counts none = none
@@ -51,8 +52,8 @@ variableRead (some p) = pick (leb 1 (p .0)) (some (variable (p .0), p .1)) none
 unfoldable pub token : List ℕ → Read Head
 token [] = none
 token (b ∷ bs) =
-    pick (eqb b 115) (dottedRead symbol 1023 15 bs)
-    (pick (eqb b 108) (some (abstraction, bs))
-    (pick (eqb b 118) (variableRead (number 65535 bs))
-    (pick (eqb b 109) (dottedRead pattern 15 4 bs)
+    pick (eqb b (byte "s")) (dottedRead symbol 1023 15 bs)
+    (pick (eqb b (byte "l")) (some (abstraction, bs))
+    (pick (eqb b (byte "v")) (variableRead (number 65535 bs))
+    (pick (eqb b (byte "m")) (dottedRead pattern 15 4 bs)
     none)))

@@ -2,7 +2,7 @@
 ghost use mathlib.Core.Path.{_≡_};
 ghost use Prim.Native.Nat.{_≤_};
 ghost use lib.ListN.{length};
-ghost use Rattle.text.specs.BookTold.{KeyTold, NumberLineTold, SideTold};
+ghost use Rattle.text.specs.told.BookTold.{KeyTold, NumberLineTold, SideTold};
 use crate::line::END;
 use crate::line::Line;
 use crate::line::read_line;

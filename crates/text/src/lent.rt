@@ -2,6 +2,9 @@
 ghost use mathlib.Core.Path.{_≡_};
 ghost use lib.ListN.{length, replicate, set};
 ghost use lib.Seq.{sets};
+ghost use Rattle.text.specs.Given.{givenAnswer, givenLeft};
+use book::accept::Accepted;
+use term::answer::Answer;
 use term::lent::put;
 
 // Leaves only zeros.
@@ -32,5 +35,23 @@ pub fn put_words(words: &[u32], out: &mut [u32])
     while i < words.len() {
         put(out, i, words[i]);
         i += 1;
+    }
+}
+
+// Gives words into a cleared slice, where they were accepted and there is room.
+pub fn give(words: &[u32], accepted: Accepted, out: &mut [u32]) -> Answer
+    requires { ⌜ now out ≡ replicate (length (now out)) 0 ⌝ }
+    ensures { λ r. ⌜ (r ≡ givenAnswer (length (now (out .entry))) (now (words .entry)) accepted)
+        × (now (out .exit) ≡ givenLeft (length (now (out .entry))) (now (words .entry)) accepted) ⌝ }
+{
+    match accepted {
+        Accepted::Sound => {
+            if out.len() < words.len() {
+                return Answer::Short;
+            }
+            put_words(words, out);
+            Answer::Done
+        }
+        Accepted::Refused(answer) => answer,
     }
 }

@@ -4,7 +4,7 @@ ghost use Prim.Native.Nat.{_+_, _≤_};
 ghost use lib.ListN.{length};
 ghost use lib.Seq.{sets};
 ghost use Rattle.text.specs.Line.{restText, lineText};
-ghost use Rattle.text.specs.Told.{LineTold};
+ghost use Rattle.text.specs.told.Told.{LineTold};
 use crate::lent::put_byte;
 use crate::token::Token;
 use crate::token::read_token;
@@ -17,9 +17,9 @@ pub enum Line {
     Bad,
 }
 
-pub const END: u8 = 10;
+pub const END: u8 = b'\n';
 
-pub const BLANK: u8 = 32;
+pub const BLANK: u8 = b' ';
 
 // Reads a line of 1 to `most` tokens from `at` on; its words go into `out` from `to` on.
 pub fn read_line(text: &[u8], at: usize, most: usize, out: &mut [u32], to: usize) -> Line

@@ -4,7 +4,7 @@ ghost use Prim.Native.Nat.{_+_, _≤_};
 ghost use lib.ListN.{length};
 ghost use lib.Seq.{sets};
 ghost use Rattle.text.specs.Number.{decimal, isDigit};
-ghost use Rattle.text.specs.Told.{DigitsTold, NumberTold};
+ghost use Rattle.text.specs.told.Told.{DigitsTold, NumberTold};
 use crate::lent::put_byte;
 
 // A number and the offset after it, or none.
@@ -13,9 +13,9 @@ pub enum Number {
     None,
 }
 
-const ZERO: u8 = 48;
+const ZERO: u8 = b'0';
 
-const NINE: u8 = 57;
+const NINE: u8 = b'9';
 
 // Numbers are decimal.
 const BASE: u32 = 10;

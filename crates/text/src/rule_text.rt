@@ -3,17 +3,16 @@ ghost use mathlib.Core.Path.{_≡_};
 ghost use Prim.Native.Nat.{_+_, _≤_};
 ghost use lib.ListN.{length, set};
 ghost use Rattle.text.specs.BookText.{ruleRead, rulesRead};
-ghost use Rattle.text.specs.BookTold.{VarsTold, sidesRead, RulesTold};
+ghost use Rattle.text.specs.told.BookTold.{VarsTold, sidesRead, RulesTold};
 use crate::key::read_number_line;
 use crate::key::read_side;
 use crate::line::Line;
 use crate::number::Number;
+use book::limits::MOST_VARS;
 use term::lent::put;
 
-// The last rule of a book has this number, and a rule has so many variables at most.
+// The last rule of a book has this number.
 const LAST_RULE: u32 = 63;
-
-const MOST_VARS: u32 = 16;
 
 // A rule has so many lines.
 pub const LINES: usize = 4;

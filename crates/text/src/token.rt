@@ -5,19 +5,24 @@ ghost use lib.ListN.{length};
 ghost use lib.Seq.{sets};
 ghost use Rattle.term.specs.Word.{countOf, identOf};
 ghost use Rattle.text.specs.Token.{dotted, wordText};
-ghost use Rattle.text.specs.Told.{DottedTold, VariableTold, TokenTold};
+ghost use Rattle.text.specs.told.Told.{DottedTold, VariableTold, TokenTold};
 use crate::lent::put_byte;
 use crate::number::Number;
 use crate::number::read_number;
 use crate::number::write_number;
 use term::word::ABSTRACTION;
+use term::word::ABSTRACTION_RANK;
 use term::word::COUNT;
-use term::word::COUNTS;
 use term::word::KIND;
 use term::word::PATTERN;
+use term::word::PATTERN_RANK;
 use term::word::SYMBOL;
+use term::word::SYMBOL_RANK;
 use term::word::VARIABLE;
-use term::word::table_kind;
+use term::word::VARIABLE_RANK;
+use term::word::count_of;
+use term::word::id_of;
+use term::word::table_rank;
 
 // A word and the offset after its token, or none.
 pub enum Token {
@@ -25,7 +30,7 @@ pub enum Token {
     None,
 }
 
-const DOT: u8 = 46;
+const DOT: u8 = b'.';
 
 // The largest ids and counts of the table: of symbols, variables and pattern variables.
 const SYMBOL_ID: u32 = 1023;
@@ -99,9 +104,9 @@ fn write_dotted(out: &mut [u8], at: usize, w: u32) -> usize
     requires { ⌜ at ≤ 3000001 ⌝ }
     ensures { λ r. ⌜ (r ≡ at + length (dotted (identOf w) (countOf w))) × (now (out .exit) ≡ sets (now (out .entry)) at (dotted (identOf w) (countOf w))) ⌝ }
 {
-    let dot = write_number(out, at, w % COUNT);
+    let dot = write_number(out, at, id_of(w));
     put_byte(out, dot, DOT);
-    write_number(out, dot + 1, w / COUNT % COUNTS)
+    write_number(out, dot + 1, count_of(w))
 }
 
 // Writes the token of a word; the offset after it.
@@ -109,20 +114,20 @@ pub fn write_token(out: &mut [u8], at: usize, w: u32) -> usize
     requires { ⌜ at ≤ 3000000 ⌝ }
     ensures { λ r. ⌜ (r ≡ at + length (wordText w)) × (now (out .exit) ≡ sets (now (out .entry)) at (wordText w)) ⌝ }
 {
-    let k = table_kind(w);
-    if k == SYMBOL {
+    let r = table_rank(w);
+    if r == SYMBOL_RANK {
         put_byte(out, at, b's');
         return write_dotted(out, at + 1, w);
     }
-    if k == ABSTRACTION {
+    if r == ABSTRACTION_RANK {
         put_byte(out, at, b'l');
         return at + 1;
     }
-    if k == VARIABLE {
+    if r == VARIABLE_RANK {
         put_byte(out, at, b'v');
-        return write_number(out, at + 1, w % COUNT);
+        return write_number(out, at + 1, id_of(w));
     }
-    if k == PATTERN {
+    if r == PATTERN_RANK {
         put_byte(out, at, b'm');
         return write_dotted(out, at + 1, w);
     }

@@ -5,17 +5,18 @@ ghost use Prim.Native.Nat.{_+_, _≤_};
 ghost use lib.ListN.{length, getD, drop};
 ghost use lib.Seq.{sets};
 ghost use Rattle.term.specs.declared.check.Checked.the-variants.{Good};
+ghost use Rattle.term.specs.Answer.{answered};
 ghost use Rattle.book.specs.Book.{Rule, checkBook};
-ghost use Rattle.text.specs.BookText.{numberText, sideText, ruleText, rulesText, bookText, writeBookAnswer, writeBookBytes};
+ghost use Rattle.text.specs.BookText.{numberText, sideText, ruleText, rulesText, bookText, writeBookCame, writeBookGives};
 use crate::lent::clear_bytes;
 use crate::lent::put_byte;
 use crate::line::END;
 use crate::line::write_line;
 use crate::number::write_number;
 use crate::term_text::MOST_BYTES;
-use book::book::check_book;
+use book::accept::Accepted;
+use book::accept::accept_book;
 use term::answer::Answer;
-use term::check::Checked;
 
 // Writes a key; the offset after it.
 pub fn put_key(out: &mut [u8], at: usize, key: &[u8]) -> usize
@@ -108,12 +109,11 @@ fn write_good(book: &[u32], out: &mut [u8]) -> usize
 
 // Writes the text of a book: 12 or 13 where it is no book, or over the lent bytes or 65,536.
 pub fn write_book(book: &[u32], out: &mut [u8]) -> Answer
-    ensures { λ r. ⌜ (r ≡ writeBookAnswer (length (now (out .entry))) (now (book .entry)))
-        × (now (out .exit) ≡ writeBookBytes (length (now (out .entry))) (now (book .entry))) ⌝ }
+    ensures { λ r. ⌜ writeBookCame (answered r) (now (out .exit)) ≡ writeBookGives (now (book .entry)) (length (now (out .entry))) ⌝ }
 {
     clear_bytes(out);
-    match check_book(book) {
-        Checked::Good => {
+    match accept_book(book) {
+        Accepted::Sound => {
             let end = write_good(book, out);
             if MOST_BYTES < end {
                 clear_bytes(out);
@@ -125,6 +125,6 @@ pub fn write_book(book: &[u32], out: &mut [u8]) -> Answer
             }
             Answer::Done
         }
-        Checked::Bad(at) => Answer::BadBook(at),
+        Accepted::Refused(answer) => answer,
     }
 }

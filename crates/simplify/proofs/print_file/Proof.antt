@@ -7,22 +7,26 @@ use lib.Seq.{length-take-le}
 use Rattle.simplify.proofs.print_file.Statement.{statement}
 use Rattle.simplify.proofs.print_file.Tie as tie
 
-slice-aggregate-write-all : tie.Need-slice-aggregate-write-all
-slice-aggregate-write-all c =
-    sym (length-take-le (c .before .before .before .before .before .before .before .first-block .result .length) (c .before .before .before .before .before .before .before .first-block .last .1 .1 .1 .0) (omega (arith, c .before .before .before .before .before .before .before .first-block .ensures .block .2, c .before .before .before .before .before .before .before .first-block .kept .1 .1 .1 .0, c .before .before .before .before .before .before .before .before .before .before .before .before .before .before .before .pre .2)))
+slice-aggregate-print : tie.Need-slice-aggregate-print
+slice-aggregate-print c =
+    let far = c .before .before .before .before .before .before .before in
+    sym (length-take-le (far .first-block .result .length) (far .first-block .last .1 .1 .1 .0) (omega (arith, far .first-block .ensures .block .2, far .first-block .kept .1 .1 .1 .0, c .before .before .before .before .before .before .before .before .before .before .before .before .before .before .before .pre .2)))
 
 slice-aggregate-print-terms : tie.Need-slice-aggregate-print-terms
 slice-aggregate-print-terms c =
-    sym (length-take-le (c .before .before .before .before .before .before .before .before .before .before .before .first-block .result .book) (c .before .before .before .before .before .before .before .before .before .before .before .first-block .last .1 .0) (c .before .before .before .before .before .before .before .before .before .before .before .first-block .ensures .ready (c .before .if2 .left) .book-fits))
+    let far = c .before .before .before .before .before .before .before .before .before .before .before in
+    sym (length-take-le (far .first-block .result .book) (far .first-block .last .1 .0) (far .first-block .ensures .ready (c .before .if2 .left) .book-fits))
 
 slice-aggregate-print-terms-2 : tie.Need-slice-aggregate-print-terms-2
 slice-aggregate-print-terms-2 c =
-    sym (length-take-le (c .before .before .before .before .before .before .before .before .before .before .before .before .first-block .result .tree) (c .before .before .before .before .before .before .before .before .before .before .before .before .first-block .last .1 .1 .0) (c .before .before .before .before .before .before .before .before .before .before .before .before .first-block .ensures .ready (c .before .before .if2 .left) .tree-fits))
+    let far = c .before .before .before .before .before .before .before .before .before .before .before .before in
+    sym (length-take-le (far .first-block .result .tree) (far .first-block .last .1 .1 .0) (far .first-block .ensures .ready (c .before .before .if2 .left) .tree-fits))
 
 print-terms-requires : tie.Need-print-terms-requires
 print-terms-requires c κs =
-    let g = c .before .before .before .before .before .before .before .before .before .before .before .before .before .first-block .ensures .ready (c .before .before .before .if2 .left) in
-    (g .inside, g .short, omega (arith, g .from-zero), c .before .before .before .before .before .before .before .before .before .before .before .before .before .first-block .kept .1 .1 .1 .0 ∙ c .before .before .before .before .before .before .before .before .before .before .before .before .before .before .before .before .before .before .before .before .before .pre .2)
+    let far = c .before .before .before .before .before .before .before .before .before .before .before .before .before in
+    let g = far .first-block .ensures .ready (c .before .before .before .if2 .left) in
+    (g .inside, g .short, omega (arith, g .from-zero), far .first-block .kept .1 .1 .1 .0 ∙ c .before .before .before .before .before .before .before .before .before .before .before .before .before .before .before .before .before .before .before .before .before .pre .2)
 
 pub print-file-spec : {M : Type 1} → statement M
 print-file-spec =
@@ -30,7 +34,7 @@ print-file-spec =
     (tie.spec
     (λ c κs. search needs)
     (λ c. search needs)
-    slice-aggregate-write-all
+    slice-aggregate-print
     (λ c κs. search needs)
     (λ c. search needs)
     (λ c. search needs)

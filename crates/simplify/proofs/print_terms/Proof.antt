@@ -18,35 +18,42 @@ abbrev μ-loop : tie.MeasureT-loop
 
 next-block-requires : tie.Need-next-block-requires Inv-loop μ-loop
 next-block-requires c κs =
-    (c .before .before .loop .inv .1, omega (arith, c .before .before .loop .inv .1, c .before .before .loop .inv .2, c .before .before .before .before .before .before .before .pre .1))
+    let turn = c .before .before in
+    (turn .loop .inv .1, omega (arith, turn .loop .inv .1, turn .loop .inv .2, c .before .before .before .before .before .before .before .pre .1))
 
-slice-reshare-prefix-write-all : tie.Need-slice-reshare-prefix-write-all Inv-loop μ-loop
-slice-reshare-prefix-write-all c =
-    let s = c .before .before .before .before .before .before .before .before .before .before .args in
+slice-reshare-prefix-print : tie.Need-slice-reshare-prefix-print Inv-loop μ-loop
+slice-reshare-prefix-print c =
+    let start = c .before .before .before .before .before .before .before .before .before .before in
+    let far = c .before .before in
+    let s = start .args in
     let q = c .before .before .before .before .before .loop in
-    let w = next-within (s .book .now) (s .tree .now) (q .term) (s .text .now) (q .at) (q .out) (c .before .before .next-block .last .1 .1 .1 .1 .1 .0) (termLine (drop (q .at) (s .text .now))) (c .before .before .next-block .result) (c .before .before .before .before .loop-test .taken) (q .inv .2) (c .before .before .next-block .ensures) in
-    omega (arith, w .3, c .before .before .next-block .kept .1 .1 .1 .1 .1 .0, q .inv .0, c .before .before .before .before .before .before .before .before .before .before .pre .3)
+    let w = next-within (s .book .now) (s .tree .now) (q .term) (s .text .now) (q .at) (q .out) (far .next-block .last .1 .1 .1 .1 .1 .0) (termLine (drop (q .at) (s .text .now))) (far .next-block .result) (c .before .before .before .before .loop-test .taken) (q .inv .2) (far .next-block .ensures) in
+    omega (arith, w .3, far .next-block .kept .1 .1 .1 .1 .1 .0, q .inv .0, start .pre .3)
 
-slice-aggregate-write-all : tie.Need-slice-aggregate-write-all Inv-loop μ-loop
-slice-aggregate-write-all c =
-    let s = c .before .before .before .before .before .before .before .before .before .before .before .args in
+slice-aggregate-print : tie.Need-slice-aggregate-print Inv-loop μ-loop
+slice-aggregate-print c =
+    let start = c .before .before .before .before .before .before .before .before .before .before .before in
+    let far = c .before .before .before in
+    let s = start .args in
     let q = c .before .before .before .before .before .before .loop in
-    let w = next-within (s .book .now) (s .tree .now) (q .term) (s .text .now) (q .at) (q .out) (c .before .before .before .next-block .last .1 .1 .1 .1 .1 .0) (termLine (drop (q .at) (s .text .now))) (c .before .before .before .next-block .result) (c .before .before .before .before .before .loop-test .taken) (q .inv .2) (c .before .before .before .next-block .ensures) in
-    sym (length-take-le (c .before .before .before .next-block .result .length) (c .before .before .before .next-block .last .1 .1 .1 .1 .1 .0) (omega (arith, w .3, c .before .before .before .next-block .kept .1 .1 .1 .1 .1 .0, q .inv .0, c .before .before .before .before .before .before .before .before .before .before .before .pre .3)))
+    let w = next-within (s .book .now) (s .tree .now) (q .term) (s .text .now) (q .at) (q .out) (far .next-block .last .1 .1 .1 .1 .1 .0) (termLine (drop (q .at) (s .text .now))) (far .next-block .result) (c .before .before .before .before .before .loop-test .taken) (q .inv .2) (far .next-block .ensures) in
+    sym (length-take-le (far .next-block .result .length) (far .next-block .last .1 .1 .1 .1 .1 .0) (omega (arith, w .3, far .next-block .kept .1 .1 .1 .1 .1 .0, q .inv .0, start .pre .3)))
 
 loop-less : tie.Need-loop-less Inv-loop μ-loop
 loop-less c =
+    let far = c .before .before .before .before .before in
     let s = c .before .before .before .before .before .before .before .before .before .before .before .before .before .args in
     let q = c .before .before .before .before .before .before .before .before .loop in
-    let w = next-within (s .book .now) (s .tree .now) (q .term) (s .text .now) (q .at) (q .out) (c .before .before .before .before .before .next-block .last .1 .1 .1 .1 .1 .0) (termLine (drop (q .at) (s .text .now))) (c .before .before .before .before .before .next-block .result) (c .before .before .before .before .before .before .before .loop-test .taken) (q .inv .2) (c .before .before .before .before .before .next-block .ensures) in
+    let w = next-within (s .book .now) (s .tree .now) (q .term) (s .text .now) (q .at) (q .out) (far .next-block .last .1 .1 .1 .1 .1 .0) (termLine (drop (q .at) (s .text .now))) (far .next-block .result) (c .before .before .before .before .before .before .before .loop-test .taken) (q .inv .2) (far .next-block .ensures) in
     omega (arith, w .0, w .1)
 
 loop-again : tie.Need-loop-again Inv-loop μ-loop
 loop-again c =
+    let far = c .before .before .before .before .before in
     let s = c .before .before .before .before .before .before .before .before .before .before .before .before .before .args in
     let q = c .before .before .before .before .before .before .before .before .loop in
-    let w = next-within (s .book .now) (s .tree .now) (q .term) (s .text .now) (q .at) (q .out) (c .before .before .before .before .before .next-block .last .1 .1 .1 .1 .1 .0) (termLine (drop (q .at) (s .text .now))) (c .before .before .before .before .before .next-block .result) (c .before .before .before .before .before .before .before .loop-test .taken) (q .inv .2) (c .before .before .before .before .before .next-block .ensures) in
-    (c .before .before .before .before .before .next-block .kept .1 .1 .1 .1 .1 .0 ∙ q .inv .0, w .1, w .2)
+    let w = next-within (s .book .now) (s .tree .now) (q .term) (s .text .now) (q .at) (q .out) (far .next-block .last .1 .1 .1 .1 .1 .0) (termLine (drop (q .at) (s .text .now))) (far .next-block .result) (c .before .before .before .before .before .before .before .loop-test .taken) (q .inv .2) (far .next-block .ensures) in
+    (far .next-block .kept .1 .1 .1 .1 .1 .0 ∙ q .inv .0, w .1, w .2)
 
 pub print-terms-spec : {M : Type 1} → statement M
 print-terms-spec =
@@ -54,8 +61,8 @@ print-terms-spec =
     (tie.spec Inv-loop μ-loop
     (λ c. (refl, c .before .before .before .before .pre .0, c .before .before .before .before .pre .2))
     next-block-requires
-    slice-reshare-prefix-write-all
-    slice-aggregate-write-all
+    slice-reshare-prefix-print
+    slice-aggregate-print
     (λ c κs. search needs)
     (λ c. c .before .before .before .before .before .next-block .kept .1 .1 .1 .1 .1 .0 ∙ c .before .before .before .before .before .before .before .before .loop .inv .0)
     (λ c. search needs)

@@ -10,33 +10,42 @@ use Rattle.simplify.proofs.blocks.write_answer.Tie as tie
 
 write-number-line-requires-2 : tie.Need-write-number-line-requires-2
 write-number-line-requires-2 c κs =
-    let s = c .before .before .before .before .before .before .before .before .before .args in
-    let l = number-text-short termKey (s .term) (omega (arith, c .before .before .before .before .before .before .before .before .before .pre)) in
+    let start = c .before .before .before .before .before .before .before .before .before in
+    let s = start .args in
+    let l = number-text-short termKey (s .term) (omega (arith, start .pre)) in
     (omega (arith, c .before .before .before .before .before .write-number-line .ensures .0, l), search needs, omega (arith, c .number .ensures, number-small (s .answer)))
 
 write-number-line-requires-3 : tie.Need-write-number-line-requires-3
 write-number-line-requires-3 c κs =
-    let s = c .before .before .before .before .before .before .before .before .before .before .before .before .before .before .args in
-    let n = c .before .before .before .before .before .number .ensures in
+    let start = c .before .before .before .before .before .before .before .before .before .before .before .before .before .before in
+    let far = c .before .before .before .before .before in
+    let s = start .args in
+    let n = far .number .ensures in
     let m = number-small (s .answer) in
-    let l = number-text-short termKey (s .term) (omega (arith, c .before .before .before .before .before .before .before .before .before .before .before .before .before .before .pre)) in
-    let k = number-text-short answerKey (c .before .before .before .before .before .number .result) (omega (arith, n, m)) in
-    (omega (arith, c .before .before .before .before .before .before .before .before .before .before .write-number-line .ensures .0, c .before .before .before .before .write-number-line2 .ensures .0, l, k), search needs, omega (arith, c .before .before .before .before .before .before .before .before .before .before .before .before .before .before .pre))
+    let l = number-text-short termKey (s .term) (omega (arith, start .pre)) in
+    let k = number-text-short answerKey (far .number .result) (omega (arith, n, m)) in
+    (omega (arith, c .before .before .before .before .before .before .before .before .before .before .write-number-line .ensures .0, c .before .before .before .before .write-number-line2 .ensures .0, l, k), search needs, omega (arith, start .pre))
 
 put-key-requires : tie.Need-put-key-requires
 put-key-requires c κs =
-    let s = c .before .before .before .before .before .before .before .before .before .before .before .before .before .before .before .before .before .before .before .args in
-    let n = c .before .before .before .before .before .before .before .before .before .before .number .ensures in
+    let start = c .before .before .before .before .before .before .before .before .before .before .before .before .before .before .before .before .before .before .before in
+    let far = c .before .before .before .before .before .before .before .before .before .before in
+    let s = start .args in
+    let n = far .number .ensures in
     let m = number-small (s .answer) in
-    let l = number-text-short termKey (s .term) (omega (arith, c .before .before .before .before .before .before .before .before .before .before .before .before .before .before .before .before .before .before .before .pre)) in
-    let k = number-text-short answerKey (c .before .before .before .before .before .before .before .before .before .before .number .result) (omega (arith, n, m)) in
-    let j = number-text-short stepsKey (s .steps) (omega (arith, c .before .before .before .before .before .before .before .before .before .before .before .before .before .before .before .before .before .before .before .pre)) in
+    let l = number-text-short termKey (s .term) (omega (arith, start .pre)) in
+    let k = number-text-short answerKey (far .number .result) (omega (arith, n, m)) in
+    let j = number-text-short stepsKey (s .steps) (omega (arith, start .pre)) in
     (omega (arith, c .before .before .before .before .before .before .before .before .before .before .before .before .before .before .before .write-number-line .ensures .0, c .before .before .before .before .before .before .before .before .before .write-number-line2 .ensures .0, c .before .before .before .before .write-number-line3 .ensures .0, l, k, j), search needs)
 
 returns : tie.Need-returns
 returns c =
-    let s = c .before .before .before .before .before .before .before .before .before .before .before .before .before .before .before .before .before .before .before .before .before .before .args in
-    answer-wrote (s .term) (s .answer) (s .steps) (s .out .now) (c .before .before .before .before .before .before .before .before .before .before .before .before .before .before .before .before .before .before .write-number-line .last .0) (c .before .before .before .before .before .before .before .before .before .before .before .before .write-number-line2 .last .0) (c .before .before .before .before .before .before .before .write-number-line3 .last .0) _ (c .before .before .before .before .before .before .before .before .before .before .before .before .before .before .before .before .before .before .write-number-line .result) (c .before .before .before .before .before .before .before .before .before .before .before .before .write-number-line2 .result) (c .before .before .before .before .before .before .before .write-number-line3 .result) _ (c .before .before .before .before .before .before .before .before .before .before .before .before .before .before .before .before .before .before .before .before .before .before .pre .0) (c .before .before .before .before .before .before .before .before .before .before .before .before .before .before .before .before .before .before .before .before .before .before .pre .1) (c .before .before .before .before .before .before .before .before .before .before .before .before .before .before .before .before .before .before .write-number-line .ensures) (rw (c .before .before .before .before .before .before .before .before .before .before .before .before .before .number .ensures) at (c .before .before .before .before .before .before .before .before .before .before .before .before .write-number-line2 .ensures)) (c .before .before .before .before .before .before .before .write-number-line3 .ensures) (c .before .before .put-key .ensures)
+    let start = c .before .before .before .before .before .before .before .before .before .before .before .before .before .before .before .before .before .before .before .before .before .before in
+    let far = c .before .before .before .before .before .before .before .before .before .before .before .before .before .before .before .before .before .before in
+    let far2 = c .before .before .before .before .before .before .before .before .before .before .before .before in
+    let far3 = c .before .before .before .before .before .before .before in
+    let s = start .args in
+    answer-wrote (s .term) (s .answer) (s .steps) (s .out .now) (far .write-number-line .last .0) (far2 .write-number-line2 .last .0) (far3 .write-number-line3 .last .0) _ (far .write-number-line .result) (far2 .write-number-line2 .result) (far3 .write-number-line3 .result) _ (start .pre .0) (start .pre .1) (far .write-number-line .ensures) (rw (c .before .before .before .before .before .before .before .before .before .before .before .before .before .number .ensures) at (far2 .write-number-line2 .ensures)) (far3 .write-number-line3 .ensures) (c .before .before .put-key .ensures)
 
 pub write-answer-spec : {M : Type 1} → statement M
 write-answer-spec =

@@ -9,15 +9,19 @@ use Rattle.simplify.proofs.blocks.write_refusal.Tie as tie
 
 write-number-line-requires-2 : tie.Need-write-number-line-requires-2
 write-number-line-requires-2 c κs =
-    let s = c .before .before .before .before .before .before .before .before .before .before .args in
-    let n = c .before .before .before .before .before .before .number .ensures in
+    let start = c .before .before .before .before .before .before .before .before .before .before in
+    let far = c .before .before .before .before .before .before in
+    let s = start .args in
+    let n = far .number .ensures in
     let m = number-small (s .answer) in
-    (omega (arith, c .before .before .before .before .before .write-number-line .ensures .0, number-text-short answerKey (c .before .before .before .before .before .before .number .result) (omega (arith, n, m))), search needs, omega (arith, c .place .ensures, c .before .before .before .before .before .before .before .before .before .before .pre))
+    (omega (arith, c .before .before .before .before .before .write-number-line .ensures .0, number-text-short answerKey (far .number .result) (omega (arith, n, m))), search needs, omega (arith, c .place .ensures, start .pre))
 
 returns : tie.Need-returns
 returns c =
-    let s = c .before .before .before .before .before .before .before .before .before .before .before .before .before .args in
-    refusal-wrote (s .answer) (s .out .now) (c .before .before .before .before .before .before .before .before .write-number-line .last .0) _ (c .before .before .before .before .before .before .before .before .write-number-line .result) _ (c .before .before .before .before .before .before .before .before .before .before .before .before .before .pre) (rw (c .before .before .before .before .before .before .before .before .before .number .ensures) at (c .before .before .before .before .before .before .before .before .write-number-line .ensures)) (rw (c .before .before .before .place .ensures) at (c .before .before .write-number-line2 .ensures))
+    let start = c .before .before .before .before .before .before .before .before .before .before .before .before .before in
+    let far = c .before .before .before .before .before .before .before .before in
+    let s = start .args in
+    refusal-wrote (s .answer) (s .out .now) (far .write-number-line .last .0) _ (far .write-number-line .result) _ (start .pre) (rw (c .before .before .before .before .before .before .before .before .before .number .ensures) at (far .write-number-line .ensures)) (rw (c .before .before .before .place .ensures) at (c .before .before .write-number-line2 .ensures))
 
 pub write-refusal-spec : {M : Type 1} → statement M
 write-refusal-spec =

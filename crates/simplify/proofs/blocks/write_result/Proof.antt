@@ -15,9 +15,11 @@ slice-aggregate-write-line c =
 
 write-line-requires : tie.Need-write-line-requires
 write-line-requires c κs =
-    let s = c .before .before .before .before .before .args in
-    let e = c .before .before .part-end .ensures in
-    (omega (arith, length-take-le (c .before .before .part-end .result) (s .words .now) (rw e (part-short (s .words .now))), e, part-short (s .words .now), c .before .before .before .before .before .pre), omega arith)
+    let start = c .before .before .before .before .before in
+    let far = c .before .before in
+    let s = start .args in
+    let e = far .part-end .ensures in
+    (omega (arith, length-take-le (far .part-end .result) (s .words .now) (rw e (part-short (s .words .now))), e, part-short (s .words .now), start .pre), omega arith)
 
 pub write-result-spec : {M : Type 1} → statement M
 write-result-spec =

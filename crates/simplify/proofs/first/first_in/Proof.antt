@@ -5,7 +5,7 @@ use mathlib.Core.Path.{sym}
 use Prim.Native.Nat.{_≤_}
 use lib.ListN.{length}
 use lib.Seq.{length-take-le}
-use Rattle.simplify.specs.Told.{FileRead}
+use Rattle.simplify.specs.told.Told.{FileRead}
 use Rattle.simplify.proofs.Inputs.{BadFile}
 use Rattle.simplify.proofs.FirstBlocks.{bad-first, read-first}
 use Rattle.simplify.proofs.first.first_in.Statement.{statement}
@@ -24,18 +24,23 @@ bad c = rw (c .before .line .given .1) at (c .before .before .before .before .be
 
 head-block-requires : tie.Need-head-block-requires
 head-block-requires c κs =
-    let f = told (c .before .before .before) in
-    (rw (f .words) (f .rules), omega (arith, f .some-words, length-take-le (c .before .before .before .before .n .given .0 .0) (c .before .before .before .before .before .before .before .before .before .before .read-input .last .1 .0) (stand (c .before .before .before))), c .before .before .before .before .before .before .before .before .before .before .before .before .before .before .before .before .before .before .pre .1)
+    let far = c .before .before .before in
+    let f = told far in
+    (rw (f .words) (f .rules), omega (arith, f .some-words, length-take-le (c .before .before .before .before .n .given .0 .0) (c .before .before .before .before .before .before .before .before .before .before .read-input .last .1 .0) (stand far)), c .before .before .before .before .before .before .before .before .before .before .before .before .before .before .before .before .before .before .pre .1)
 
 returns : tie.Need-returns
 returns c =
+    let far = c .before .before .before .before .before .before .before .before .before in
+    let far2 = c .before .before .before .before .before .before .before .before in
+    let far3 = c .before .before .before .before in
     let s = c .before .before .before .before .before .before .before .before .before .before .before .before .before .before .before .before .before .before .before .before .before .before .before .args in
-    read-first (s .text .now) (c .before .before .before .before .before .before .before .before .before .before .before .before .before .before .before .read-input .last .1 .0) _ (s .out .now) _ (c .before .before .before .before .before .before .before .before .before .n .given .0 .0) (c .before .before .before .before .before .before .before .before .before .n .given .0 .1 .0) (c .before .before .before .before .head-block .result) (stand (c .before .before .before .before .before .before .before .before)) (told (c .before .before .before .before .before .before .before .before)) (c .before .before .before .before .head-block .ensures)
+    read-first (s .text .now) (c .before .before .before .before .before .before .before .before .before .before .before .before .before .before .before .read-input .last .1 .0) _ (s .out .now) _ (far .n .given .0 .0) (far .n .given .0 .1 .0) (far3 .head-block .result) (stand far2) (told far2) (far3 .head-block .ensures)
 
 returns-2 : tie.Need-returns-2
 returns-2 c =
+    let far = c .before .before .before in
     let s = c .before .before .before .before .before .before .before .before .before .before .before .before .before .before .before .before .before .before .before .before .args in
-    bad-first (s .text .now) _ _ (s .out .now) _ (c .before .before .before .before .before .before .line .given .0 .0) (c .before .before .before .write-refusal .result) (c .refusal .result) (bad (c .before .before .before .before .before)) (c .before .before .before .write-refusal .ensures) (c .refusal .ensures)
+    bad-first (s .text .now) _ _ (s .out .now) _ (c .before .before .before .before .before .before .line .given .0 .0) (far .write-refusal .result) (c .refusal .result) (bad (c .before .before .before .before .before)) (far .write-refusal .ensures) (c .refusal .ensures)
 
 pub first-in-spec : {M : Type 1} → statement M
 first-in-spec =

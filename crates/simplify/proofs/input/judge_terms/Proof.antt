@@ -6,7 +6,7 @@ use mathlib.Core.List.{List, [], _∷_, _++_}
 use Prim.Native.Nat.{ℕ, _+_, _-_, _≤_}
 use lib.ListN.{length}
 use Rattle.text.specs.declared.line.Line.the-variants as lines
-use Rattle.simplify.specs.Told.{TermLineTold}
+use Rattle.simplify.specs.told.Told.{TermLineTold}
 use Rattle.simplify.proofs.Lines.{Left, begun, text-ends, line-bad, line-next}
 use Rattle.simplify.proofs.input.judge_terms.Statement.{statement}
 use Rattle.simplify.proofs.input.judge_terms.Tie as tie
@@ -30,7 +30,8 @@ returns c =
 
 add-line : tie.Need-add-line Inv-loop μ-loop
 add-line c =
-    omega (arith, c .before .before .before .before .before .before .before .before .loop .inv .1, c .before .before .before .before .before .before .before .before .loop .inv .2, c .before .before .before .before .before .before .before .before .before .before .before .pre)
+    let turn = c .before .before .before .before .before .before .before .before in
+    omega (arith, turn .loop .inv .1, turn .loop .inv .2, c .before .before .before .before .before .before .before .before .before .before .before .pre)
 
 loop-again : tie.Need-loop-again Inv-loop μ-loop
 loop-again c =

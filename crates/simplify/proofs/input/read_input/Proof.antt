@@ -1,90 +1,72 @@
--- `input::read_input` meets its contract: each line tells what the file says from there on.
+-- `input::read_input` meets its contract: the lines of the book, and then those of the terms, tell what the file says.
 use borrow.Author.Needs.{needs}
 use native.Mathlib.Omega.{arith}
-use Rattle.text.specs.BookText.{bookLine, rulesKey, rulesRead}
-use Rattle.text.specs.BookTold.{KeyTold, NumberLineTold, RulesTold}
-use Rattle.text.specs.declared.key.Key.the-variants as keys
-use Rattle.text.specs.declared.number.Number.the-variants as numbers
+use mathlib.Core.Path.{_≡_, sym}
+use Prim.Native.Nat.{_≤_}
+use lib.ListN.{length}
+use lib.Seq.{length-take-le}
 use Rattle.text.specs.declared.rule_text.Rules.the-variants as rules
-use Rattle.simplify.proofs.Inputs.{too-long, no-book, no-count, no-rules, no-terms, all-there}
+use Rattle.text.specs.BookText.{bookRead}
+use Rattle.text.specs.told.BookTold.{RulesTold}
+use Rattle.simplify.proofs.Inputs.{too-long, no-book, book-there, due-small, no-terms, all-there}
 use Rattle.simplify.proofs.input.read_input.Statement.{statement}
 use Rattle.simplify.proofs.input.read_input.Tie as tie
 
--- the line `book=1`
-key-told : (c : tie.After-known-told) → KeyTold bookLine (c .before .before .before .before .before .before .before .before .before .args .text .now) 0 (keys.After (c .before .count-at .given .0 .0))
-key-told c = rw (c .before .count-at .given .1) at (c .before .before .before .read-key .ensures)
+returns : tie.Need-returns
+returns c = too-long (c .before .before .before .before .args .text .now) (c .if1 .taken)
 
--- the line `rules=`
-count-told : (c : tie.After-known-told2) → NumberLineTold rulesKey 64 (c .before .before .before .before .before .before .before .before .before .before .before .before .before .before .args .text .now) (c .before .before .before .before .before .before .count-at .given .0 .0) (numbers.Read (c .before .count .given .0 .0) (c .before .count .given .0 .1 .0))
-count-told c = rw (c .before .count .given .1) at (c .before .before .before .read-number-line .ensures)
+-- the lines of the book
+lines-told : (c : tie.After-known-told) → RulesTold bookRead 8385 (c .before .before .before .before .before .before .before .before .before .before .before .args .text .now) 0 0 (c .before .before .before .before .before .before .before .before .before .before .before .args .book .now) (c .before .before .before .before .before .read-lines .last .1 .1 .0) (rules.Words (c .before .n .given .0 .0) (c .before .n .given .0 .1 .0))
+lines-told c = rw (c .before .n .given .1) at (c .before .before .before .before .before .read-lines .ensures)
 
--- the lines of the rules
-rules-told : (c : tie.After-known-told3)
-    → RulesTold (rulesRead 0 (c .before .before .before .before .before .before .before .before .count .given .0 .0)) 8384 (c .before .before .before .before .before .before .before .before .before .before .before .before .before .before .before .before .before .before .before .before .before .args .text .now) (c .before .before .before .before .before .before .before .before .count .given .0 .1 .0) 1 (c .before .before .before .before .before .before .before .before .before .before .before .before .before .before .before .before .before .before .before .before .before .args .book .now) (c .before .before .before .before .before .read-rules .last .1 .1 .1 .0) (rules.Words (c .before .n .given .0 .0) (c .before .n .given .0 .1 .0))
-rules-told c = rw (c .before .n .given .1) at (c .before .before .before .before .before .read-rules .ensures)
+-- its words stand in the lent ones
+stand : (c : tie.After-known-told) → c .before .n .given .0 .0 ≤ length (c .before .before .before .before .before .read-lines .last .1 .1 .0)
+stand c = omega (arith, lines-told c .5, c .before .before .before .before .before .read-lines .kept .1 .1 .0, c .before .before .before .before .before .before .before .before .before .before .before .pre)
 
-returns-2 : tie.Need-returns-2
-returns-2 c =
-    no-book (c .before .before .before .before .before .before .before .before .args .text .now) (c .before .before .before .before .if1 .left) (rw (c .enum-told .given .1) at (c .before .before .read-key .ensures))
+slice-aggregate-line-after : tie.Need-slice-aggregate-line-after
+slice-aggregate-line-after c = sym (length-take-le _ (c .before .before .before .before .before .before .read-lines .last .1 .1 .0) (stand (c .before)))
 
-returns-3 : tie.Need-returns-3
-returns-3 c =
-    no-count (c .before .before .before .before .before .before .before .before .before .before .before .before .before .args .text .now) (c .before .before .before .before .before .before .before .before .before .if1 .left) (c .before .before .before .before .before .count-at .given .0 .0) (key-told (c .before .before .before .before)) (rw (c .enum-told2 .given .1) at (c .before .before .read-number-line .ensures))
+line-after-requires : tie.Need-line-after-requires
+line-after-requires c κs = let start = c .before .before .before .before .before .before .before .before .before .before .before .before in book-there (start .args .text .now) (c .before .before .before .before .before .before .before .before .if1 .left) (start .args .book .now) _ _ _ (start .pre) (lines-told (c .before))
 
 judge-terms-requires : tie.Need-judge-terms-requires
 judge-terms-requires c κs =
-    (rules-told (c .before .before .before .before .before) .4, c .before .before .before .before .before .before .before .before .before .before .before .before .before .before .before .before .before .before .before .before .before .before .if1 .left, omega (arith, count-told (c .before .before .before .before .before .before .before .before .before .before .before .before) .1))
+    let start = c .before .before .before .before .before .before .before .before .before .before .before .before .before .before in
+    let t = lines-told (c .before .before .before) in
+    (t .4, c .before .before .before .before .before .before .before .before .before .before .if1 .left, omega (arith, due-small (start .args .text .now) (c .before .before .before .before .before .before .before .before .before .before .if1 .left) (start .args .book .now) _ _ _ (start .pre) t (c .before .line-after .result) (c .before .line-after .ensures)))
+
+returns-2 : tie.Need-returns-2
+returns-2 c =
+    let start = c .before .before .before .before .before .before .before .before .before .before .before .before .before .before .before .before .before .before .before in
+    all-there (start .args .text .now) (c .before .before .before .before .before .before .before .before .before .before .before .before .before .before .before .if1 .left) (start .args .book .now) _ _ _ (start .pre) (lines-told (c .before .before .before .before .before .before .before .before)) (c .before .before .before .before .before .before .line-after .result) (c .before .before .before .before .before .before .line-after .ensures) (rw (c .enum-told .given .1) at (c .before .before .before .before .judge-terms .ensures))
+
+returns-3 : tie.Need-returns-3
+returns-3 c =
+    let start = c .before .before .before .before .before .before .before .before .before .before .before .before .before .before .before .before .before .before .before .before in
+    no-terms (start .args .text .now) (c .before .before .before .before .before .before .before .before .before .before .before .before .before .before .before .before .if1 .left) (start .args .book .now) _ _ _ (start .pre) (lines-told (c .before .before .before .before .before .before .before .before .before)) (c .before .before .before .before .before .before .before .line-after .result) (c .before .before .before .before .before .before .before .line-after .ensures) (c .before .line .given .0 .0) (rw (c .before .line .given .1) at (c .before .before .before .before .before .judge-terms .ensures))
 
 returns-4 : tie.Need-returns-4
-returns-4 c =
-    let s = c .before .before .before .before .before .before .before .before .before .before .before .before .before .before .before .before .before .before .before .before .before .before .before .before .before .before .before .before .before .before .before .args in
-    all-there (s .text .now) (c .before .before .before .before .before .before .before .before .before .before .before .before .before .before .before .before .before .before .before .before .before .before .before .before .before .before .before .if1 .left) (c .before .before .before .before .before .before .before .before .before .before .before .before .before .before .before .before .before .before .before .before .before .before .before .count-at .given .0 .0) (key-told (c .before .before .before .before .before .before .before .before .before .before .before .before .before .before .before .before .before .before .before .before .before .before)) (c .before .before .before .before .before .before .before .before .before .before .before .before .before .before .before .before .before .before .count .given .0 .0) (c .before .before .before .before .before .before .before .before .before .before .before .before .before .before .before .before .before .before .count .given .0 .1 .0) (count-told (c .before .before .before .before .before .before .before .before .before .before .before .before .before .before .before .before .before)) (s .book .now) (c .before .before .before .before .before .before .before .before .before .before .before .before .before .before .before .read-rules .last .1 .1 .1 .0) (c .before .before .before .before .before .before .before .before .before .before .before .n .given .0 .0) (c .before .before .before .before .before .before .before .before .before .before .before .n .given .0 .1 .0)
-    (rules-told (c .before .before .before .before .before .before .before .before .before .before)) _ (c .before .before .before .before .before .before .before .before .before .before .before .before .before .before .before .before .before .before .before .before .before .before .before .before .before .before .before .before .before .before .before .pre) (c .before .before .before .before .before .before .before .before .put .ensures) (rw (c .enum-told3 .given .1) at (c .before .before .before .before .judge-terms .ensures))
-
-returns-5 : tie.Need-returns-5
-returns-5 c =
-    let s = c .before .before .before .before .before .before .before .before .before .before .before .before .before .before .before .before .before .before .before .before .before .before .before .before .before .before .before .before .before .before .before .before .args in
-    no-terms (s .text .now) (c .before .before .before .before .before .before .before .before .before .before .before .before .before .before .before .before .before .before .before .before .before .before .before .before .before .before .before .before .if1 .left) (c .before .before .before .before .before .before .before .before .before .before .before .before .before .before .before .before .before .before .before .before .before .before .before .before .count-at .given .0 .0) (key-told (c .before .before .before .before .before .before .before .before .before .before .before .before .before .before .before .before .before .before .before .before .before .before .before)) (c .before .before .before .before .before .before .before .before .before .before .before .before .before .before .before .before .before .before .before .count .given .0 .0) (c .before .before .before .before .before .before .before .before .before .before .before .before .before .before .before .before .before .before .before .count .given .0 .1 .0) (count-told (c .before .before .before .before .before .before .before .before .before .before .before .before .before .before .before .before .before .before)) (s .book .now) (c .before .before .before .before .before .before .before .before .before .before .before .before .before .before .before .before .read-rules .last .1 .1 .1 .0) (c .before .before .before .before .before .before .before .before .before .before .before .before .n .given .0 .0) (c .before .before .before .before .before .before .before .before .before .before .before .before .n .given .0 .1 .0)
-    (rules-told (c .before .before .before .before .before .before .before .before .before .before .before)) (c .before .line .given .0 .0) (rw (c .before .line .given .1) at (c .before .before .before .before .before .judge-terms .ensures))
-
-returns-6 : tie.Need-returns-6
-returns-6 c =
-    let s = c .before .before .before .before .before .before .before .before .before .before .before .before .before .before .before .before .before .before .before .before .before .args in
-    no-rules (s .text .now) (c .before .before .before .before .before .before .before .before .before .before .before .before .before .before .before .before .before .if1 .left) (c .before .before .before .before .before .before .before .before .before .before .before .before .before .count-at .given .0 .0) (key-told (c .before .before .before .before .before .before .before .before .before .before .before .before)) (c .before .before .before .before .before .before .before .before .count .given .0 .0) (c .before .before .before .before .before .before .before .before .count .given .0 .1 .0) (count-told (c .before .before .before .before .before .before .before)) (s .book .now) (c .before .before .before .before .before .read-rules .last .1 .1 .1 .0) (c .before .line2 .given .0 .0)
-    (rw (c .before .line2 .given .1) at (c .before .before .before .before .before .read-rules .ensures))
+returns-4 c = no-book (c .before .before .before .before .before .before .before .before .before .before .before .args .text .now) (c .before .before .before .before .before .before .before .if1 .left) _ (rw (c .before .line2 .given .1) at (c .before .before .before .before .before .read-lines .ensures))
 
 pub read-input-spec : {M : Type 1} → statement M
 read-input-spec =
     tie.close
     (tie.spec
-    (λ c. too-long (c .before .before .before .before .args .text .now) (c .if1 .taken))
-    (λ c. search needs)
+    returns
     (λ c κs. search needs)
+    (λ c. search needs)
+    (λ c. stand c)
+    slice-aggregate-line-after
+    line-after-requires
+    judge-terms-requires
+    (λ c. search needs)
+    (λ c. search needs)
+    (λ c. search needs)
     (λ c. search needs)
     (λ c. search needs)
     returns-2
     (λ c. search needs)
-    (λ c κs. (key-told (c .before) .2, omega arith))
-    (λ c. search needs)
     (λ c. search needs)
     returns-3
     (λ c. search needs)
-    (λ c κs. (count-told (c .before) .3, count-told (c .before) .1))
-    (λ c. search needs)
-    (λ c κs. search needs)
-    (λ c. search needs)
-    (λ c. search needs)
-    (λ c. search needs)
-    judge-terms-requires
-    (λ c. search needs)
-    (λ c. omega (arith, rules-told (c .before .before .before .before .before .before .before .before .before .before) .5))
-    (λ c. search needs)
-    (λ c. search needs)
-    (λ c. search needs)
-    (λ c. search needs)
-    returns-4
-    (λ c. search needs)
-    (λ c. search needs)
-    returns-5
-    (λ c. search needs)
-    returns-6)
+    returns-4)

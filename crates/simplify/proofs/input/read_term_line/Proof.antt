@@ -10,8 +10,11 @@ returns c =
 
 returns-2 : tie.Need-returns-2
 returns-2 c =
-    let s = c .before .before .before .before .before .before .before .before .before .before .before .args in
-    line-there (s .text .now) (s .at) (c .before .before .before .before .before .tokens .given .0 .0) (s .words .now) (c .before .before .read-line .last .1 .1 .1 .0) (c .before .before .read-line .result) (c .before .before .before .before .before .before .before .before .before .before .before .pre) (rw (c .before .before .before .before .before .tokens .given .1) at (c .before .before .before .before .before .before .before .read-key .ensures)) (c .before .before .read-line .ensures)
+    let start = c .before .before .before .before .before .before .before .before .before .before .before in
+    let far = c .before .before .before .before .before in
+    let far2 = c .before .before in
+    let s = start .args in
+    line-there (s .text .now) (s .at) (far .tokens .given .0 .0) (s .words .now) (far2 .read-line .last .1 .1 .1 .0) (far2 .read-line .result) (start .pre) (rw (far .tokens .given .1) at (c .before .before .before .before .before .before .before .read-key .ensures)) (far2 .read-line .ensures)
 
 pub read-term-line-spec : {M : Type 1} → statement M
 read-term-line-spec =

@@ -7,7 +7,9 @@ use Rattle.text.proofs.book_text.read_book.Statement.{statement}
 use Rattle.text.proofs.book_text.read_book.Tie as tie
 
 read-book-in-requires : tie.Need-read-book-in-requires
-read-book-in-requires c κs = (refl, c .before .before .before .before .clear .ensures ∙ ap (λ (k : ℕ). replicate k 0) (sym (c .before .before .before .before .clear .kept .0)))
+read-book-in-requires c κs =
+    let far = c .before .before .before .before in
+    (refl, far .clear .ensures ∙ ap (λ (k : ℕ). replicate k 0) (sym (far .clear .kept .0)))
 
 returns : tie.Need-returns
 returns c = rw (c .before .before .before .before .before .before .before .before .clear .kept .0) at (c .before .before .before .read-book-in .ensures)

@@ -28,9 +28,10 @@ returns-2 c =
 
 loop-again : tie.Need-loop-again Inv-loop μ-loop
 loop-again c =
+    let far = c .before .before .before in
     let s = c .before .before .before .before .before .before .args in
     let q = c .before .before .before .before .before .loop in
-    (omega arith, omega (arith, c .before .before .before .if1 .left), omega arith, key-next (s .key .now) (s .text .now) (s .at) (q .i) (q .a) (q .inv .3) (c .before .before .before .before .loop-test .taken) (c .before .before .before .if1 .left) (c .if2 .left))
+    (omega arith, omega (arith, far .if1 .left), omega arith, key-next (s .key .now) (s .text .now) (s .at) (q .i) (q .a) (q .inv .3) (c .before .before .before .before .loop-test .taken) (far .if1 .left) (c .if2 .left))
 
 returns-3 : tie.Need-returns-3 Inv-loop μ-loop
 returns-3 c =

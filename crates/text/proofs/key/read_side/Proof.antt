@@ -11,8 +11,10 @@ returns c =
 
 returns-2 : tie.Need-returns-2
 returns-2 c =
+    let far = c .before .before .before .before .before in
+    let far2 = c .before .before in
     let s = c .before .before .before .before .before .before .before .before .before .before .before .args in
-    side-there (s .key .now) (s .text .now) (s .at) (s .to) (s .out .now) (c .before .before .read-line .last .1 .1 .1 .0) (c .before .before .before .before .before .a .given .0 .0) (c .before .before .read-line .result) (rw (c .before .before .before .before .before .a .given .1) at (c .before .before .before .before .before .before .before .read-key .ensures)) (c .before .before .read-line .ensures)
+    side-there (s .key .now) (s .text .now) (s .at) (s .to) (s .out .now) (far2 .read-line .last .1 .1 .1 .0) (far .a .given .0 .0) (far2 .read-line .result) (rw (far .a .given .1) at (c .before .before .before .before .before .before .before .read-key .ensures)) (far2 .read-line .ensures)
 
 pub read-side-spec : {M : Type 1} → statement M
 read-side-spec =

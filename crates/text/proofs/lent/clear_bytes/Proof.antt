@@ -20,10 +20,11 @@ loop-again c =
 
 returns : tie.Need-returns Inv-loop μ-loop
 returns c =
+    let start = c .before .before in
     let q = c .before .loop in
-    let e : q .i ≡ length (c .before .before .args .out .now) = omega arith in
+    let e : q .i ≡ length (start .args .out .now) = omega arith in
     q .inv .2
-    ∙ rw (e, drop-of-length-le (c .before .before .args .out .now) {i = length (c .before .before .args .out .now)} (omega arith), append-nil)
+    ∙ rw (e, drop-of-length-le (start .args .out .now) {i = length (start .args .out .now)} (omega arith), append-nil)
 
 pub clear-bytes-spec : {M : Type 1} → statement M
 clear-bytes-spec =

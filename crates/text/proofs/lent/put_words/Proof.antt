@@ -17,9 +17,10 @@ abbrev μ-loop : tie.MeasureT-loop
 
 loop-again : tie.Need-loop-again Inv-loop μ-loop
 loop-again c =
+    let far = c .before .before in
     let q = c .before .before .before .before .before .before .loop in
     let s = c .before .before .before .before .before .before .before .before .before .args in
-    (omega arith, c .before .before .put .kept .0 ∙ q .inv .1, c .before .before .put .ensures ∙ rw (q .inv .2) (word-next (s .words .now) (s .out .now) (q .i) (c .before .before .before .before .before .loop-test .taken)))
+    (omega arith, far .put .kept .0 ∙ q .inv .1, far .put .ensures ∙ rw (q .inv .2) (word-next (s .words .now) (s .out .now) (q .i) (c .before .before .before .before .before .loop-test .taken)))
 
 returns : tie.Need-returns Inv-loop μ-loop
 returns c =

@@ -7,7 +7,7 @@ use Prim.Native.Nat.{ℕ, _+_, _-_, _≤_}
 use lib.ListN.{length, length-append}
 use lib.Seq.{sets}
 use Rattle.text.specs.declared.token.Token.the-variants as tokens
-use Rattle.text.specs.Told.{TokenTold}
+use Rattle.text.specs.told.Told.{TokenTold}
 use Rattle.text.proofs.Turns.{Left, begun, spent, no-token, runs-out, line-ends, bad-byte, goes-on}
 use Rattle.text.proofs.Wrote.{word-after}
 use Rattle.text.proofs.line.read_line.Statement.{statement}
@@ -38,13 +38,14 @@ returns-2 c =
 
 returns-3 : tie.Need-returns-3 Inv-loop μ-loop
 returns-3 c =
+    let far = c .before .before in
     let q = c .before .before .before .before .before .before .before .before .before .before .before .before .loop in
     let s = c .before .before .before .before .before .before .before .before .before .before .before .before .before .before .before .args in (
       q .inv .2 ++ (c .before .before .before .before .before .before .before .before .w .given .0 .0 ∷ []),
-      line-ends (s .most) (s .text .now) (s .at) (q .inv .2) (q .n) (q .i) (q .inv .5) (c .before .before .before .before .before .before .before .before .before .before .before .loop-test .taken) _ _ (told (c .before .before .before)) (c .before .before .if1 .left) (c .if2 .taken),
+      line-ends (s .most) (s .text .now) (s .at) (q .inv .2) (q .n) (q .i) (q .inv .5) (c .before .before .before .before .before .before .before .before .before .before .before .loop-test .taken) _ _ (told (c .before .before .before)) (far .if1 .left) (c .if2 .taken),
       rw length-append (omega (arith, q .inv .3)),
       word-after (q .inv .2) (s .out .now) (q .out) _ (s .to) (q .n) _ (q .inv .3) (q .inv .4) (c .before .before .before .before .before .put .ensures),
-      omega (arith, c .before .before .if1 .left),
+      omega (arith, far .if1 .left),
     )
 
 returns-4 : tie.Need-returns-4 Inv-loop μ-loop
@@ -55,13 +56,14 @@ returns-4 c =
 
 loop-again : tie.Need-loop-again Inv-loop μ-loop
 loop-again c =
+    let far = c .before .before .before .before .before .before in
     let q = c .before .before .before .before .before .before .before .before .before .before .before .before .before .loop in
     let s = c .before .before .before .before .before .before .before .before .before .before .before .before .before .before .before .before .args in (
-      c .before .before .before .before .before .before .put .kept .0 ∙ q .inv .0,
+      far .put .kept .0 ∙ q .inv .0,
       omega arith,
       q .inv .2 ++ (c .before .before .before .before .before .before .before .before .before .w .given .0 .0 ∷ []),
       rw length-append (omega (arith, q .inv .3)),
-      word-after (q .inv .2) (s .out .now) (q .out) _ (s .to) (q .n) _ (q .inv .3) (q .inv .4) (c .before .before .before .before .before .before .put .ensures),
+      word-after (q .inv .2) (s .out .now) (q .out) _ (s .to) (q .n) _ (q .inv .3) (q .inv .4) (far .put .ensures),
       goes-on (s .most) (s .text .now) (s .at) (q .inv .2) (q .n) (q .i) (q .inv .5) (c .before .before .before .before .before .before .before .before .before .before .before .before .loop-test .taken) _ _ (told (c .before .before .before .before)) (c .before .before .before .if1 .left) (c .before .if2 .left) (c .if3 .left),
     )
 

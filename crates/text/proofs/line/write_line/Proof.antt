@@ -19,17 +19,19 @@ returns c =
 
 write-rest-requires : tie.Need-write-rest-requires
 write-rest-requires c κs =
-    let s = c .before .before .before .before .before .before .before .before .before .before .args in (
-      rw (suffix 1 (s .words .now), length-drop 1 (s .words .now)) (omega (arith, c .before .before .before .before .before .before .before .before .before .before .pre)),
-      omega (arith, c .before .before .before .before .write-token .ensures .0, word-short (getD (s .words .now) 0 0), c .before .before .before .before .before .before .before .before .before .before .pre),
+    let start = c .before .before .before .before .before .before .before .before .before .before in
+    let s = start .args in (
+      rw (suffix 1 (s .words .now), length-drop 1 (s .words .now)) (omega (arith, start .pre)),
+      omega (arith, c .before .before .before .before .write-token .ensures .0, word-short (getD (s .words .now) 0 0), start .pre),
     )
 
 returns-2 : tie.Need-returns-2
 returns-2 c =
+    let far = c .before .before .before .before .before .before .before in
     let s = c .before .before .before .before .before .before .before .before .before .before .before .before .before .args in
     let h : length (s .words .now) ≡ 0 → ⊥ = c .before .before .before .before .before .before .before .before .before .before .if1 .left in
     rw (first-rest (s .words .now) (omega (arith, h)))
-    (wrote-then (s .out .now) (s .at) _ _ (c .before .before .before .before .before .before .before .write-token .last .0) _ (wordText (getD (s .words .now) 0 0)) (restText (drop 1 (s .words .now))) (c .before .before .before .before .before .before .before .write-token .ensures)
+    (wrote-then (s .out .now) (s .at) _ _ (far .write-token .last .0) _ (wordText (getD (s .words .now) 0 0)) (restText (drop 1 (s .words .now))) (far .write-token .ensures)
     (rw (suffix 1 (s .words .now)) at (c .before .before .write-rest .ensures)))
 
 pub write-line-spec : {M : Type 1} → statement M

@@ -24,14 +24,16 @@ abbrev μ-loop : tie.MeasureT-loop
 
 loop-again : tie.Need-loop-again Inv-loop μ-loop
 loop-again c =
+    let far = c .before .before .before .before .before .before .before in
+    let far2 = c .before .before in
     let q = c .before .before .before .before .before .before .before .before .before .before .loop in
     let s = c .before .before .before .before .before .before .before .before .before .before .before .before .before .args in
     let w = getD (s .words .now) (q .i) 0 in
     let p = wrote-then (s .out .now) (s .at) (q .to) _ (q .out) _ (q .inv .3) (32 ∷ wordText w) (q .inv .4, q .inv .5)
-    (wrote-first (q .out) (q .to) 32 _ (c .before .before .before .before .before .before .before .put-byte .last .0) _ (wordText w) (c .before .before .before .before .before .before .before .put-byte .ensures) (c .before .before .write-token .ensures)) in (
+    (wrote-first (q .out) (q .to) 32 _ (far .put-byte .last .0) _ (wordText w) (far .put-byte .ensures) (far2 .write-token .ensures)) in (
       omega arith,
-      c .before .before .write-token .kept .0 ∙ c .before .before .before .before .before .before .before .put-byte .kept .0 ∙ q .inv .1,
-      omega (arith, c .before .before .write-token .ensures .0, word-short w, q .inv .2),
+      far2 .write-token .kept .0 ∙ far .put-byte .kept .0 ∙ q .inv .1,
+      omega (arith, far2 .write-token .ensures .0, word-short w, q .inv .2),
       q .inv .3 ++ (32 ∷ wordText w),
       p .0,
       p .1,

@@ -16,8 +16,9 @@ returns-2 c =
 
 returns-3 : tie.Need-returns-3
 returns-3 c =
+    let far = c .before .before .before .before in
     let s = c .before .before .before .before .before .before .args in
-    (zero-there (s .most) (s .text .now) (s .at) (c .before .before .before .before .if1 .left) (sym (c .before .before .is-digit .ensures) ∙ not-false _ (c .before .if2 .left)) (c .if3 .taken), omega arith, omega arith, omega (arith, c .before .before .before .before .if1 .left))
+    (zero-there (s .most) (s .text .now) (s .at) (far .if1 .left) (sym (c .before .before .is-digit .ensures) ∙ not-false _ (c .before .if2 .left)) (c .if3 .taken), omega arith, omega arith, omega (arith, far .if1 .left))
 
 returns-4 : tie.Need-returns-4
 returns-4 c =

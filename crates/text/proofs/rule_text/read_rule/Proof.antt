@@ -3,7 +3,7 @@ use borrow.Author.Needs.{needs}
 use native.Mathlib.Omega.{arith}
 use mathlib.Core.Path.{_≡_}
 use Rattle.text.specs.declared.rule_text.Vars.the-variants as vars
-use Rattle.text.specs.BookTold.{VarsTold}
+use Rattle.text.specs.told.BookTold.{VarsTold}
 use Rattle.text.proofs.RuleSteps.{rule-there}
 use Rattle.text.proofs.rule_text.read_rule.Statement.{statement}
 use Rattle.text.proofs.rule_text.read_rule.Tie as tie
@@ -12,12 +12,15 @@ told : (c : tie.After-known-told) → VarsTold (c .before .before .before .befor
 told c = rw (c .before .vars .given .1) at (c .before .before .before .read-vars .ensures)
 
 read-sides-requires : tie.Need-read-sides-requires
-read-sides-requires c κs = (told (c .before) .1, c .before .before .before .before .before .before .before .pre .1, c .before .before .before .before .before .before .before .pre .2)
+read-sides-requires c κs =
+    let start = c .before .before .before .before .before .before .before in
+    (told (c .before) .1, start .pre .1, start .pre .2)
 
 returns : tie.Need-returns
 returns c =
+    let far = c .before .before in
     let s = c .before .before .before .before .before .before .before .before .before .before .args in
-    rule-there (s .number) _ (s .text .now) (s .at) (c .before .before .before .before .before .vars .given .0 .1 .0) (s .to) (s .out .now) (c .before .before .read-sides .last .1 .1 .1 .1 .0) (c .before .before .read-sides .result) (told (c .before .before .before .before)) (c .before .before .read-sides .ensures)
+    rule-there (s .number) _ (s .text .now) (s .at) (c .before .before .before .before .before .vars .given .0 .1 .0) (s .to) (s .out .now) (far .read-sides .last .1 .1 .1 .1 .0) (far .read-sides .result) (told (c .before .before .before .before)) (far .read-sides .ensures)
 
 returns-2 : tie.Need-returns-2
 returns-2 c = rw (c .before .line .given .1) at (c .before .before .before .read-vars .ensures)

@@ -8,7 +8,7 @@ use lib.ListN.{length, length-append}
 use lib.Seq.{sets}
 use Rattle.text.specs.declared.rule_text.Rules.the-variants as rules
 use Rattle.text.specs.BookText.{ruleRead}
-use Rattle.text.specs.BookTold.{RulesTold}
+use Rattle.text.specs.told.BookTold.{RulesTold}
 use Rattle.text.proofs.RuleSteps.{Left, begun, rules-end, rule-bad, rule-next, words-after}
 use Rattle.text.proofs.rule_text.read_rules.Statement.{statement}
 use Rattle.text.proofs.rule_text.read_rules.Tie as tie
@@ -25,7 +25,9 @@ told : (c : tie.After-known-told Inv-loop μ-loop)
 told c = rw (c .before .m .given .1) at (c .before .before .before .before .before .read-rule .ensures)
 
 read-rule-requires : tie.Need-read-rule-requires Inv-loop μ-loop
-read-rule-requires c κs = let q = c .before .before .loop in (q .inv .2, omega (arith, c .before .before .before .before .before .pre), omega (arith, c .before .before .before .before .before .pre, q .inv .3))
+read-rule-requires c κs =
+    let start = c .before .before .before .before .before in
+    let q = c .before .before .loop in (q .inv .2, omega (arith, start .pre), omega (arith, start .pre, q .inv .3))
 
 loop-again : tie.Need-loop-again Inv-loop μ-loop
 loop-again c =
@@ -50,9 +52,10 @@ returns c =
 
 returns-2 : tie.Need-returns-2 Inv-loop μ-loop
 returns-2 c =
-    let s = c .before .before .before .before .args in
+    let start = c .before .before .before .before in
+    let s = start .args in
     let q = c .before .loop in
-    (q .inv .4, rules-end (s .count) (s .text .now) (s .at) (q .inv .4) (q .number) (q .a) (q .inv .7) (c .loop-test .left), q .inv .5, q .inv .6, q .inv .2, omega (arith, q .inv .3, q .inv .1, c .before .before .before .before .pre))
+    (q .inv .4, rules-end (s .count) (s .text .now) (s .at) (q .inv .4) (q .number) (q .a) (q .inv .7) (c .loop-test .left), q .inv .5, q .inv .6, q .inv .2, omega (arith, q .inv .3, q .inv .1, start .pre))
 
 pub read-rules-spec : {M : Type 1} → statement M
 read-rules-spec =

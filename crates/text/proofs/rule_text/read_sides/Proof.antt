@@ -5,15 +5,16 @@ use mathlib.Core.Path.{_≡_}
 use Prim.Native.Nat.{_+_}
 use Rattle.text.specs.declared.line.Line.the-variants as lines
 use Rattle.text.specs.BookText.{leftKey, rightKey}
-use Rattle.text.specs.BookTold.{SideTold}
+use Rattle.text.specs.told.BookTold.{SideTold}
 use Rattle.text.proofs.RuleSteps.{no-left, left-few, no-right, right-few, sides-there}
 use Rattle.text.proofs.rule_text.read_sides.Statement.{statement}
 use Rattle.text.proofs.rule_text.read_sides.Tie as tie
 
 returns : tie.Need-returns
 returns c =
+    let far = c .before .before .before .before in
     let s = c .before .before .before .before .before .before .before .before .before .args in
-    no-left (s .number) (s .vars) (s .text .now) (s .at) (s .to) (s .out .now) (c .before .before .before .before .read-side .last .1 .1 .1 .0) (rw (c .enum-told .given .1) at (c .before .before .before .before .read-side .ensures))
+    no-left (s .number) (s .vars) (s .text .now) (s .at) (s .to) (s .out .now) (far .read-side .last .1 .1 .1 .0) (rw (c .enum-told .given .1) at (far .read-side .ensures))
 
 -- the left side
 left-told : (c : tie.After-known-told)
@@ -22,17 +23,21 @@ left-told c = rw (c .before .left .given .1) at (c .before .before .before .befo
 
 add-read-side-3 : tie.Need-add-read-side-3
 add-read-side-3 c =
-    let s = c .before .before .before .before .before .before .before .before .before .before .before .before .args in omega (arith, left-few (s .number) (s .vars) (s .text .now) (s .at) (s .to) (s .out .now) _ _ _ (left-told (c .before .before)), c .before .before .before .before .before .before .before .before .before .before .before .before .pre)
+    let start = c .before .before .before .before .before .before .before .before .before .before .before .before in
+    let s = start .args in omega (arith, left-few (s .number) (s .vars) (s .text .now) (s .at) (s .to) (s .out .now) _ _ _ (left-told (c .before .before)), start .pre)
 
 read-side-requires-2 : tie.Need-read-side-requires-2
 read-side-requires-2 c κs =
-    let s = c .before .before .before .before .before .before .before .before .before .before .before .before .args in
-    (left-told (c .before .before) .4, omega (arith, left-few (s .number) (s .vars) (s .text .now) (s .at) (s .to) (s .out .now) _ _ _ (left-told (c .before .before)), c .before .before .before .before .before .before .before .before .before .before .before .before .pre))
+    let start = c .before .before .before .before .before .before .before .before .before .before .before .before in
+    let far = c .before .before in
+    let s = start .args in
+    (left-told far .4, omega (arith, left-few (s .number) (s .vars) (s .text .now) (s .at) (s .to) (s .out .now) _ _ _ (left-told far), start .pre))
 
 returns-2 : tie.Need-returns-2
 returns-2 c =
+    let far = c .before .before .before .before in
     let s = c .before .before .before .before .before .before .before .before .before .before .before .before .before .before .before .before .before .args in
-    no-right (s .number) (s .vars) (s .text .now) (s .at) (s .to) (s .out .now) _ _ _ (left-told (c .before .before .before .before .before .before .before)) (c .before .before .before .before .read-side2 .last .1 .1 .1 .0) (rw (c .enum-told2 .given .1) at (c .before .before .before .before .read-side2 .ensures))
+    no-right (s .number) (s .vars) (s .text .now) (s .at) (s .to) (s .out .now) _ _ _ (left-told (c .before .before .before .before .before .before .before)) (far .read-side2 .last .1 .1 .1 .0) (rw (c .enum-told2 .given .1) at (far .read-side2 .ensures))
 
 -- the right side
 right-told : (c : tie.After-known-told2)
@@ -41,16 +46,19 @@ right-told c = rw (c .before .right .given .1) at (c .before .before .before .be
 
 put-header-requires : tie.Need-put-header-requires
 put-header-requires c κs =
-    let s = c .before .before .before .before .before .before .before .before .before .before .before .before .before .before .before .before .before .before .before .args in
-    (c .before .before .before .before .before .before .before .before .before .before .before .before .before .before .before .before .before .before .before .pre .2, left-few (s .number) (s .vars) (s .text .now) (s .at) (s .to) (s .out .now) _ _ _ (left-told (c .before .before .before .before .before .before .before .before .before)), right-few (s .number) (s .vars) (s .text .now) (s .at) (s .to) (s .out .now) _ _ _ (left-told (c .before .before .before .before .before .before .before .before .before)) _ _ _ (right-told (c .before)))
+    let start = c .before .before .before .before .before .before .before .before .before .before .before .before .before .before .before .before .before .before .before in
+    let far = c .before .before .before .before .before .before .before .before .before in
+    let s = start .args in
+    (start .pre .2, left-few (s .number) (s .vars) (s .text .now) (s .at) (s .to) (s .out .now) _ _ _ (left-told far), right-few (s .number) (s .vars) (s .text .now) (s .at) (s .to) (s .out .now) _ _ _ (left-told far) _ _ _ (right-told (c .before)))
 
 add-t18 : tie.Need-add-t18
 add-t18 c = let s = c .before .before .before .before .before .before .before .before .before .before .before .before .before .before .before .before .before .before .before .before .before .before .args in omega (arith, left-few (s .number) (s .vars) (s .text .now) (s .at) (s .to) (s .out .now) _ _ _ (left-told (c .before .before .before .before .before .before .before .before .before .before .before .before)))
 
 add-t26 : tie.Need-add-t26
 add-t26 c =
+    let far = c .before .before .before .before .before .before .before .before .before .before .before .before in
     let s = c .before .before .before .before .before .before .before .before .before .before .before .before .before .before .before .before .before .before .before .before .before .before .args in
-    omega (arith, left-few (s .number) (s .vars) (s .text .now) (s .at) (s .to) (s .out .now) _ _ _ (left-told (c .before .before .before .before .before .before .before .before .before .before .before .before)), right-few (s .number) (s .vars) (s .text .now) (s .at) (s .to) (s .out .now) _ _ _ (left-told (c .before .before .before .before .before .before .before .before .before .before .before .before)) _ _ _ (right-told (c .before .before .before .before)))
+    omega (arith, left-few (s .number) (s .vars) (s .text .now) (s .at) (s .to) (s .out .now) _ _ _ (left-told far), right-few (s .number) (s .vars) (s .text .now) (s .at) (s .to) (s .out .now) _ _ _ (left-told far) _ _ _ (right-told (c .before .before .before .before)))
 
 returns-3 : tie.Need-returns-3
 returns-3 c =

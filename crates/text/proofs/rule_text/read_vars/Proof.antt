@@ -4,7 +4,7 @@ use native.Mathlib.Omega.{arith}
 use mathlib.Core.Path.{_≡_}
 use Rattle.text.specs.declared.number.Number.the-variants as numbers
 use Rattle.text.specs.BookText.{ruleKey, varsKey}
-use Rattle.text.specs.BookTold.{NumberLineTold}
+use Rattle.text.specs.told.BookTold.{NumberLineTold}
 use Rattle.text.proofs.RuleSteps.{no-rule, other-rule, no-vars, vars-there}
 use Rattle.text.proofs.rule_text.read_vars.Statement.{statement}
 use Rattle.text.proofs.rule_text.read_vars.Tie as tie

@@ -4,7 +4,7 @@ use native.Mathlib.Omega.{arith}
 use mathlib.Core.Path.{_≡_, sym, _∙_}
 use Prim.Native.Nat.{_+_}
 use Rattle.text.specs.declared.number.Number.the-variants as numbers
-use Rattle.text.specs.Told.{NumberTold}
+use Rattle.text.specs.told.Told.{NumberTold}
 use Rattle.text.proofs.Letters.{no-id, id-last, no-dot, no-count, dotted-there}
 use Rattle.text.proofs.token.read_dotted.Statement.{statement}
 use Rattle.text.proofs.token.read_dotted.Tie as tie
@@ -15,18 +15,21 @@ returns c =
 
 returns-2 : tie.Need-returns-2
 returns-2 c =
+    let far = c .before .before in
     let s = c .before .before .before .before .before .before .args in
-    id-last (s .ids) (s .counts) (s .text .now) (s .at) _ (c .before .before .i .given .0 .1 .0) (rw (c .before .before .i .given .1) at (c .before .before .before .before .read-number .ensures)) (c .if1 .taken)
+    id-last (s .ids) (s .counts) (s .text .now) (s .at) _ (far .i .given .0 .1 .0) (rw (far .i .given .1) at (c .before .before .before .before .read-number .ensures)) (c .if1 .taken)
 
 returns-3 : tie.Need-returns-3
 returns-3 c =
+    let far = c .before .before .before .before in
     let s = c .before .before .before .before .before .before .before .before .args in
-    no-dot (s .ids) (s .counts) (s .text .now) (s .at) _ (c .before .before .before .before .i .given .0 .1 .0) (rw (c .before .before .before .before .i .given .1) at (c .before .before .before .before .before .before .read-number .ensures)) (c .before .before .if1 .left) (c .if2 .taken)
+    no-dot (s .ids) (s .counts) (s .text .now) (s .at) _ (far .i .given .0 .1 .0) (rw (far .i .given .1) at (c .before .before .before .before .before .before .read-number .ensures)) (c .before .before .if1 .left) (c .if2 .taken)
 
 returns-4 : tie.Need-returns-4
 returns-4 c =
+    let far = c .before .before .before .before .before .before .before in
     let s = c .before .before .before .before .before .before .before .before .before .before .before .args in
-    no-count (s .ids) (s .counts) (s .text .now) (s .at) _ (c .before .before .before .before .before .before .before .i .given .0 .1 .0) (rw (c .before .before .before .before .before .before .before .i .given .1) at (c .before .before .before .before .before .before .before .before .before .read-number .ensures)) (c .before .before .before .before .before .if1 .left) (c .before .before .before .if2 .left)
+    no-count (s .ids) (s .counts) (s .text .now) (s .at) _ (far .i .given .0 .1 .0) (rw (far .i .given .1) at (c .before .before .before .before .before .before .before .before .before .read-number .ensures)) (c .before .before .before .before .before .if1 .left) (c .before .before .before .if2 .left)
     (rw (c .enum-told2 .given .1) at (c .before .before .read-number2 .ensures))
 
 id-told : (c : tie.After-known-told2) → NumberTold (c .before .before .before .before .before .before .before .before .before .before .before .before .args .ids) (c .before .before .before .before .before .before .before .before .before .before .before .before .args .text .now) (c .before .before .before .before .before .before .before .before .before .before .before .before .args .at) (numbers.Read (c .before .before .before .before .before .before .before .before .i .given .0 .0) (c .before .before .before .before .before .before .before .before .i .given .0 .1 .0))

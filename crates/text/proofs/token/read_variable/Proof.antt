@@ -3,7 +3,7 @@ use borrow.Author.Needs.{needs}
 use native.Mathlib.Omega.{arith}
 use mathlib.Core.Path.{_≡_, sym, _∙_}
 use Rattle.text.specs.declared.number.Number.the-variants as numbers
-use Rattle.text.specs.Told.{NumberTold}
+use Rattle.text.specs.told.Told.{NumberTold}
 use Rattle.text.proofs.Letters.{no-variable, id-zero, variable-there}
 use Rattle.text.proofs.token.read_variable.Statement.{statement}
 use Rattle.text.proofs.token.read_variable.Tie as tie
@@ -13,7 +13,8 @@ returns c = let s = c .before .before .before .before .args in no-variable (s .t
 
 returns-2 : tie.Need-returns-2
 returns-2 c =
-    let s = c .before .before .before .before .before .before .args in id-zero (s .text .now) (s .at) _ (c .before .before .i .given .0 .1 .0) (rw (c .before .before .i .given .1) at (c .before .before .before .before .read-number .ensures)) (c .if1 .taken)
+    let far = c .before .before in
+    let s = c .before .before .before .before .before .before .args in id-zero (s .text .now) (s .at) _ (far .i .given .0 .1 .0) (rw (far .i .given .1) at (c .before .before .before .before .read-number .ensures)) (c .if1 .taken)
 
 id-told : (c : tie.Else1) → NumberTold 65535 (c .before .before .before .before .before .before .args .text .now) (c .before .before .before .before .before .before .args .at) (numbers.Read (c .before .before .i .given .0 .0) (c .before .before .i .given .0 .1 .0))
 id-told c = rw (c .before .before .i .given .1) at (c .before .before .before .before .read-number .ensures)

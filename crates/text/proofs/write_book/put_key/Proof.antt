@@ -17,9 +17,10 @@ abbrev μ-loop : tie.MeasureT-loop
 
 loop-again : tie.Need-loop-again Inv-loop μ-loop
 loop-again c =
+    let far = c .before .before in
     let s = c .before .before .before .before .before .before .before .before .before .args in
     let q = c .before .before .before .before .before .before .loop in
-    (c .before .before .put-byte .kept .0 ∙ q .inv .0, omega arith, byte-next (s .key .now) (s .out .now) (q .out) _ (s .at) (q .i) (c .before .before .before .before .before .loop-test .taken) (q .inv .2) (c .before .before .put-byte .ensures))
+    (far .put-byte .kept .0 ∙ q .inv .0, omega arith, byte-next (s .key .now) (s .out .now) (q .out) _ (s .at) (q .i) (c .before .before .before .before .before .loop-test .taken) (q .inv .2) (far .put-byte .ensures))
 
 returns : tie.Need-returns Inv-loop μ-loop
 returns c =

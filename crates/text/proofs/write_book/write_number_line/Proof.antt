@@ -7,12 +7,16 @@ use Rattle.text.proofs.write_book.write_number_line.Statement.{statemen
 use Rattle.text.proofs.write_book.write_number_line.Tie as tie
 
 add-result : tie.Need-add-result
-add-result c = omega (arith, c .before .before .before .before .before .before .write-number .ensures .0, c .before .before .before .before .before .before .before .before .before .before .put-key .ensures .0, decimal-few (c .before .before .before .before .before .before .before .before .before .before .before .before .before .before .args .n), c .before .before .before .before .before .before .before .before .before .before .before .before .before .before .pre)
+add-result c =
+    let start = c .before .before .before .before .before .before .before .before .before .before .before .before .before .before in
+    omega (arith, c .before .before .before .before .before .before .write-number .ensures .0, c .before .before .before .before .before .before .before .before .before .before .put-key .ensures .0, decimal-few (start .args .n), start .pre)
 
 returns : tie.Need-returns
 returns c =
+    let far = c .before .before .before .before .before .before .before .before .before .before in
+    let far2 = c .before .before .before .before .before .before in
     let s = c .before .before .before .before .before .before .before .before .before .before .before .before .before .before .args in
-    number-line-wrote (s .out .now) (c .before .before .before .before .before .before .before .before .before .before .put-key .last .0) (c .before .before .before .before .before .before .write-number .last .0) _ (s .key .now) (s .at) _ _ (s .n) (c .before .before .before .before .before .before .before .before .before .before .put-key .ensures) (c .before .before .before .before .before .before .write-number .ensures) (c .before .before .put-byte .ensures)
+    number-line-wrote (s .out .now) (far .put-key .last .0) (far2 .write-number .last .0) _ (s .key .now) (s .at) _ _ (s .n) (far .put-key .ensures) (far2 .write-number .ensures) (c .before .before .put-byte .ensures)
 
 pub write-number-line-spec : {M : Type 1} → statement M
 write-number-line-spec =

@@ -23,9 +23,12 @@ write-side-requires-2 c κs =
 
 returns : tie.Need-returns
 returns c =
+    let far = c .before .before .before .before .before .before .before .before .before .before .before .before .before .before .before .before .before in
+    let far2 = c .before .before .before .before .before .before .before .before .before .before .before .before in
+    let far3 = c .before .before .before .before .before .before .before in
     let s = c .before .before .before .before .before .before .before .before .before .before .before .before .before .before .before .before .before .before .before .before .before .before .before .args in
-    rule-wrote (s .out .now) (c .before .before .before .before .before .before .before .before .before .before .before .before .before .before .before .before .before .write-number-line .last .0) (c .before .before .before .before .before .before .before .before .before .before .before .before .write-number-line2 .last .0) (c .before .before .before .before .before .before .before .write-side .last .0) _ (s .at) _ _ _ _ (s .number)
-    (record { vars = s .vars; left = s .left .now; right = s .right .now }) (c .before .before .before .before .before .before .before .before .before .before .before .before .before .before .before .before .before .write-number-line .ensures) (c .before .before .before .before .before .before .before .before .before .before .before .before .write-number-line2 .ensures) (c .before .before .before .before .before .before .before .write-side .ensures) (c .before .before .write-side2 .ensures)
+    rule-wrote (s .out .now) (far .write-number-line .last .0) (far2 .write-number-line2 .last .0) (far3 .write-side .last .0) _ (s .at) _ _ _ _ (s .number)
+    (record { vars = s .vars; left = s .left .now; right = s .right .now }) (far .write-number-line .ensures) (far2 .write-number-line2 .ensures) (far3 .write-side .ensures) (c .before .before .write-side2 .ensures)
 
 pub write-rule-spec : {M : Type 1} → statement M
 write-rule-spec =

@@ -35,8 +35,9 @@ few c =
 
 write-rule-requires : tie.Need-write-rule-requires Inv-loop μ-loop
 write-rule-requires c κs =
-    let t = here (c .before .before .before .before .before .before) in
-    (omega (arith, few (c .before .before .before .before .before .before) .2), few (c .before .before .before .before .before .before) .1, t .vars-few, rw (t .left-here) (t .next .left-few), rw (t .right-here) (t .next .right-few))
+    let far = c .before .before .before .before .before .before in
+    let t = here far in
+    (omega (arith, few far .2), few far .1, t .vars-few, rw (t .left-here) (t .next .left-few), rw (t .right-here) (t .next .right-few))
 
 loop-again : tie.Need-loop-again Inv-loop μ-loop
 loop-again c =

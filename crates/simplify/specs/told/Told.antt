@@ -1,5 +1,5 @@
 -- What the functions of the program tell of the bytes that were read.
-use Prim.Native.Nat.{ℕ, _+_, _*_, _≤_, _<_}
+use Prim.Native.Nat.{ℕ, _+_, _≤_, _<_}
 use mathlib.Core.Path.{_≡_}
 use mathlib.Core.Bool.{false}
 use mathlib.Core.List.{List}
@@ -7,18 +7,27 @@ use mathlib.Core.Option.{none, some}
 use lib.ListN.{length, getD, take, drop}
 use lib.Seq.{sets}
 use Rattle.text.specs.Number.{Read}
+use Rattle.text.specs.BookText.{dueAfter}
 use Rattle.text.specs.declared.line.Line.{Line}
 use Rattle.text.specs.declared.line.Line.the-variants as lines
-use Rattle.tree.specs.Compiled.{treeWords, compileAnswer}
+use Rattle.tree.specs.Layout.{treeWords}
+use Rattle.compiler.specs.Compiled.{compileAnswer}
 use Rattle.steps.specs.Simplify.{simplify}
 use Rattle.simplify.specs.declared.input.Judged.{Judged}
 use Rattle.simplify.specs.declared.input.Judged.the-variants as judged
 use Rattle.simplify.specs.declared.input.Input.{Input}
 use Rattle.simplify.specs.declared.input.Input.the-variants as input
 use Rattle.simplify.specs.declared.first.First.{First}
+use Rattle.simplify.specs.declared.streams.Came.{Came}
+use Rattle.simplify.specs.declared.streams.Came.the-variants as came
 use Rattle.simplify.specs.declared.next.Next.{Next}
 use Rattle.simplify.specs.File.{termLine, Terms, termsAre, badTerm, termsRead, fileIs, badFile, fileSaid}
 use Rattle.simplify.specs.Printed.{refused, termBlock, fileAnswer, fileBook, fileTerms, bookBlock, firstBlock}
+
+-- at most so many bytes came in
+abbrev pub Within : ℕ → Came → Type 0
+Within most (came.Bytes n) = n ≤ most
+Within most came.Failed = Unit {0}
 
 -- a `term=` line at the offset `at` of a text, whose words went into a slice
 abbrev pub TermLineTold : List ℕ → ℕ → List ℕ → List ℕ → Line → Type 0
@@ -40,7 +49,7 @@ pub record FileRead (bs done : List ℕ) (n at : ℕ) : Type 0 where
   pub some-words : 1 ≤ n
   pub few : n ≤ 8385
   pub rules : getD book 0 0 ≤ 64
-  pub left : termsRead (4 * getD book 0 0 + 3) (drop at bs) ≡ termsAre terms
+  pub left : termsRead (dueAfter book) (drop at bs) ≡ termsAre terms
   pub inside : at ≤ length bs
   pub short : length bs ≤ 65536
 
@@ -72,7 +81,7 @@ pub record Ready (bs book tree : List ℕ) (r : First) : Type 0 where
   pub book-fits : r .book ≤ length book
   pub tree-words : take (r .tree) tree ≡ treeWords (fileBook (fileSaid bs))
   pub tree-fits : r .tree ≤ length tree
-  pub terms : termsRead (4 * getD (fileBook (fileSaid bs)) 0 0 + 3) (drop (r .at) bs) ≡ termsAre (fileTerms (fileSaid bs))
+  pub terms : termsRead (dueAfter (fileBook (fileSaid bs))) (drop (r .at) bs) ≡ termsAre (fileTerms (fileSaid bs))
   pub inside : r .at ≤ length bs
   pub short : length bs ≤ 65536
   pub from-zero : r .number ≡ 0

@@ -14,7 +14,7 @@ use Rattle.text.specs.declared.rule_text.Rules as declared
 use Rattle.text.specs.declared.rule_text.Vars.{Vars}
 use Rattle.text.specs.declared.rule_text.Vars.the-variants as vars
 use Rattle.text.specs.declared.rule_text.Rules.the-variants as rules
-use Rattle.text.specs.Told.{NumberIs}
+use Rattle.text.specs.told.Told.{NumberIs}
 use Rattle.text.specs.BookText.{leftKey, keyed, numberLine, sideLine, Rules, rulesAre, badAt, leftThen, ruleRead}
 
 -- the key stands at the offset `at` of a text

@@ -1,0 +1,39 @@
+-- `print_input` is safe and ends: what came in lies within the lent bytes.
+use borrow.Author.Needs.{needs}
+use native.Mathlib.Omega.{arith}
+use mathlib.Core.Path.{_≡_, sym}
+use Prim.Native.Nat.{_≤_}
+use lib.ListN.{length}
+use lib.Seq.{length-take-le}
+use Rattle.simplify.specs.declared.streams.Came.the-variants as came
+use Rattle.simplify.specs.told.Told.{Within}
+use Rattle.simplify.proofs.print_input.Statement.{statement}
+use Rattle.simplify.proofs.print_input.Tie as tie
+
+told : (c : tie.After-known-told) → Within (length (c .before .before .before .before .before .before .before .before .before .before .before .args .text .now)) (came.Bytes (c .before .n .given .0 .0))
+told c = rw (c .before .n .given .1) at (c .before .before .before .before .before .read-all .ensures)
+
+stand : (c : tie.After-known-told) → c .before .n .given .0 .0 ≤ length (c .before .before .before .before .before .read-all .last .0)
+stand c = omega (arith, told c, c .before .before .before .before .before .read-all .kept .0)
+
+slice-aggregate-print-file : tie.Need-slice-aggregate-print-file
+slice-aggregate-print-file c = sym (length-take-le _ (c .before .before .before .before .before .before .read-all .last .0) (stand (c .before)))
+
+pub print-input-spec : {M : Type 1} → statement M
+print-input-spec =
+    tie.close
+    (tie.spec
+    (λ c κs. search needs)
+    (λ c. search needs)
+    (λ c. stand c)
+    slice-aggregate-print-file
+    (λ c κs. search needs)
+    (λ c. search needs)
+    (λ c κs. search needs)
+    (λ c. search needs)
+    (λ c. search needs)
+    (λ c. search needs)
+    (λ c. search needs)
+    (λ c. search needs)
+    (λ c. search needs)
+    (λ c. search needs))
