@@ -1,1 +1,1 @@
-pub mod Settled
+mod Told

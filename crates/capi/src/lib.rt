@@ -1,15 +1,19 @@
 // The twelve public operations for C and Rust, on numbers and slices. A slice is passed as a pointer and a length, an array and a single number as a
 // pointer. Inputs come first, then lent outputs, then further results, and the place last; what comes back is document 01's number. Each
-// promises what the operation of `rosenduch` promises, of an answer with that number and that place.
+// promises what the operation of `rosenduch` promises, where what is said is that number and that place.
 ghost use mathlib.Core.Path.{_≡_};
 ghost use lib.ListN.{length};
-ghost use Rattle.term.specs.declared.answer.Answer.{Answer};
-ghost use Rattle.tree.specs.declared.compile.Compiled.{Compiled};
-ghost use Rattle.walk.specs.declared.by_tree.TreeMatch.{TreeMatch};
-ghost use Rattle.steps.specs.declared.simplify.Simplified.{Simplified};
-ghost use Rattle.rosenduch.specs.Promises.{CheckTermPromised, CheckBookPromised, MatchRulePromised, BuildLeftPromised, CompilePromised, MatchTreePromised};
-ghost use Rattle.rosenduch.specs.Promises.{RewriteRootPromised, SimplifyPromised, ReadBookPromised, WriteBookPromised, ReadTermPromised, WriteTermPromised};
-ghost use Rattle.capi.specs.Said.{Said};
+ghost use Rattle.term.specs.Answer.{saying, answered};
+ghost use Rattle.term.specs.Checked.{checkTermGives};
+ghost use Rattle.book.specs.Accept.{checkBookGives};
+ghost use Rattle.fit.specs.Match.{matchRuleCame, matchRuleGives};
+ghost use Rattle.fit.specs.Build.{buildLeftCame, buildLeftGives};
+ghost use Rattle.compiler.specs.Compiled.{compileCame, compileGives};
+ghost use Rattle.walk.specs.ByTree.{matchTreeCame, matchTreeGives};
+ghost use Rattle.steps.specs.Rewrite.{rewriteRootCame, rewriteRootGives};
+ghost use Rattle.steps.specs.Simplify.{simplifyCame, simplifyGives};
+ghost use Rattle.text.specs.TermText.{readTermCame, readTermGives, writeTermCame, writeTermGives};
+ghost use Rattle.text.specs.BookText.{readBookCame, readBookGives, writeBookCame, writeBookGives};
 use rosenduch::operations;
 use term::answer::Answer;
 use term::answer::number;
@@ -17,7 +21,7 @@ use term::answer::place;
 
 // Hands back an answer's number, with its place through the pointer.
 fn say(answer: Answer, at: &mut usize) -> u32
-    ensures { λ r. ⌜ Said answer r (now (at .exit)) ⌝ }
+    ensures { λ r. ⌜ saying r (now (at .exit)) ≡ answered answer ⌝ }
 {
     *at = place(answer);
     number(answer)
@@ -26,7 +30,7 @@ fn say(answer: Answer, at: &mut usize) -> u32
 // Checks that words are one term.
 #[no_mangle]
 pub extern "C" fn rosenduch_check_term(term: &[u32], at: &mut usize) -> u32
-    ensures { λ r. ⌜ ((answer : Answer) × CheckTermPromised (now (term .entry)) answer × Said answer r (now (at .exit))) ⌝ }
+    ensures { λ r. ⌜ saying r (now (at .exit)) ≡ checkTermGives (now (term .entry)) ⌝ }
 {
     say(operations::check_term(term), at)
 }
@@ -34,7 +38,7 @@ pub extern "C" fn rosenduch_check_term(term: &[u32], at: &mut usize) -> u32
 // Checks that words are a book.
 #[no_mangle]
 pub extern "C" fn rosenduch_check_book(book: &[u32], at: &mut usize) -> u32
-    ensures { λ r. ⌜ ((answer : Answer) × CheckBookPromised (now (book .entry)) answer × Said answer r (now (at .exit))) ⌝ }
+    ensures { λ r. ⌜ saying r (now (at .exit)) ≡ checkBookGives (now (book .entry)) ⌝ }
 {
     say(operations::check_book(book), at)
 }
@@ -49,9 +53,8 @@ pub extern "C" fn rosenduch_match_rule(
     lengths: &mut [u32; 16],
     at: &mut usize,
 ) -> u32
-    ensures { λ r. ⌜ ((answer : Answer)
-        × MatchRulePromised (now (book .entry)) rule (now (term .entry)) (length (now (bodies .entry))) answer (now (bodies .exit)) (now (lengths .exit))
-        × Said answer r (now (at .exit))) ⌝ }
+    ensures { λ r. ⌜ matchRuleCame (saying r (now (at .exit))) (now (bodies .exit)) (now (lengths .exit))
+        ≡ matchRuleGives (now (book .entry)) rule (now (term .entry)) (length (now (bodies .entry))) ⌝ }
 {
     say(
         operations::match_rule(book, rule, term, bodies, lengths),
@@ -69,9 +72,8 @@ pub extern "C" fn rosenduch_build_left(
     out: &mut [u32],
     at: &mut usize,
 ) -> u32
-    ensures { λ r. ⌜ ((answer : Answer)
-        × BuildLeftPromised (now (book .entry)) rule (now (bodies .entry)) (now (lengths .entry)) (length (now (out .entry))) answer (now (out .exit))
-        × Said answer r (now (at .exit))) ⌝ }
+    ensures { λ r. ⌜ buildLeftCame (saying r (now (at .exit))) (now (out .exit))
+        ≡ buildLeftGives (now (book .entry)) rule (now (bodies .entry)) (now (lengths .entry)) (length (now (out .entry))) ⌝ }
 {
     say(operations::build_left(book, rule, bodies, lengths, out), at)
 }
@@ -84,10 +86,7 @@ pub extern "C" fn rosenduch_compile(
     words: &mut u32,
     at: &mut usize,
 ) -> u32
-    ensures { λ r. ⌜ ((compiled : Compiled)
-        × CompilePromised (now (book .entry)) (length (now (out .entry))) compiled (now (out .exit))
-        × (now (words .exit) ≡ compiled .words)
-        × Said (compiled .answer) r (now (at .exit))) ⌝ }
+    ensures { λ r. ⌜ compileCame (saying r (now (at .exit))) (now (words .exit)) (now (out .exit)) ≡ compileGives (now (book .entry)) (length (now (out .entry))) ⌝ }
 {
     let compiled = operations::compile(book, out);
     *words = compiled.words;
@@ -105,10 +104,8 @@ pub extern "C" fn rosenduch_match_tree(
     rule: &mut u32,
     at: &mut usize,
 ) -> u32
-    ensures { λ r. ⌜ ((found : TreeMatch)
-        × MatchTreePromised (now (tree .entry)) (now (term .entry)) (length (now (bodies .entry))) found (now (bodies .exit)) (now (lengths .exit))
-        × (now (rule .exit) ≡ found .rule)
-        × Said (found .answer) r (now (at .exit))) ⌝ }
+    ensures { λ r. ⌜ matchTreeCame (saying r (now (at .exit))) (now (rule .exit)) (now (bodies .exit)) (now (lengths .exit))
+        ≡ matchTreeGives (now (tree .entry)) (now (term .entry)) (length (now (bodies .entry))) ⌝ }
 {
     let found = operations::match_tree(tree, term, bodies, lengths);
     *rule = found.rule;
@@ -125,9 +122,8 @@ pub extern "C" fn rosenduch_rewrite_root(
     out: &mut [u32],
     at: &mut usize,
 ) -> u32
-    ensures { λ r. ⌜ ((answer : Answer)
-        × RewriteRootPromised (now (book .entry)) (now (tree .entry)) (now (term .entry)) (length (now (out .entry))) answer (now (out .exit))
-        × Said answer r (now (at .exit))) ⌝ }
+    ensures { λ r. ⌜ rewriteRootCame (saying r (now (at .exit))) (now (out .exit))
+        ≡ rewriteRootGives (now (book .entry)) (now (tree .entry)) (now (term .entry)) (length (now (out .entry))) ⌝ }
 {
     say(operations::rewrite_root(book, tree, term, out), at)
 }
@@ -143,10 +139,8 @@ pub extern "C" fn rosenduch_simplify(
     steps: &mut u16,
     at: &mut usize,
 ) -> u32
-    ensures { λ r. ⌜ ((done : Simplified)
-        × SimplifyPromised (now (book .entry)) (now (tree .entry)) (now (term .entry)) budget (length (now (out .entry))) done (now (out .exit))
-        × (now (steps .exit) ≡ done .steps)
-        × Said (done .answer) r (now (at .exit))) ⌝ }
+    ensures { λ r. ⌜ simplifyCame (saying r (now (at .exit))) (now (steps .exit)) (now (out .exit))
+        ≡ simplifyGives (now (book .entry)) (now (tree .entry)) (now (term .entry)) budget (length (now (out .entry))) ⌝ }
 {
     let done = operations::simplify(book, tree, term, budget, out);
     *steps = done.steps;
@@ -157,9 +151,7 @@ pub extern "C" fn rosenduch_simplify(
 // Reads the text of a book.
 #[no_mangle]
 pub extern "C" fn rosenduch_read_book(text: &[u8], out: &mut [u32], at: &mut usize) -> u32
-    ensures { λ r. ⌜ ((answer : Answer)
-        × ReadBookPromised (now (text .entry)) (length (now (out .entry))) answer (now (out .exit))
-        × Said answer r (now (at .exit))) ⌝ }
+    ensures { λ r. ⌜ readBookCame (saying r (now (at .exit))) (now (out .exit)) ≡ readBookGives (now (text .entry)) (length (now (out .entry))) ⌝ }
 {
     say(operations::read_book(text, out), at)
 }
@@ -167,9 +159,7 @@ pub extern "C" fn rosenduch_read_book(text: &[u8], out: &mut [u32], at: &mut usi
 // Writes the text of a book.
 #[no_mangle]
 pub extern "C" fn rosenduch_write_book(book: &[u32], out: &mut [u8], at: &mut usize) -> u32
-    ensures { λ r. ⌜ ((answer : Answer)
-        × WriteBookPromised (now (book .entry)) (length (now (out .entry))) answer (now (out .exit))
-        × Said answer r (now (at .exit))) ⌝ }
+    ensures { λ r. ⌜ writeBookCame (saying r (now (at .exit))) (now (out .exit)) ≡ writeBookGives (now (book .entry)) (length (now (out .entry))) ⌝ }
 {
     say(operations::write_book(book, out), at)
 }
@@ -177,9 +167,7 @@ pub extern "C" fn rosenduch_write_book(book: &[u32], out: &mut [u8], at: &mut us
 // Reads the text of a term.
 #[no_mangle]
 pub extern "C" fn rosenduch_read_term(text: &[u8], out: &mut [u32], at: &mut usize) -> u32
-    ensures { λ r. ⌜ ((answer : Answer)
-        × ReadTermPromised (now (text .entry)) (length (now (out .entry))) answer (now (out .exit))
-        × Said answer r (now (at .exit))) ⌝ }
+    ensures { λ r. ⌜ readTermCame (saying r (now (at .exit))) (now (out .exit)) ≡ readTermGives (now (text .entry)) (length (now (out .entry))) ⌝ }
 {
     say(operations::read_term(text, out), at)
 }
@@ -187,9 +175,7 @@ pub extern "C" fn rosenduch_read_term(text: &[u8], out: &mut [u32], at: &mut usi
 // Writes the text of a term.
 #[no_mangle]
 pub extern "C" fn rosenduch_write_term(term: &[u32], out: &mut [u8], at: &mut usize) -> u32
-    ensures { λ r. ⌜ ((answer : Answer)
-        × WriteTermPromised (now (term .entry)) (length (now (out .entry))) answer (now (out .exit))
-        × Said answer r (now (at .exit))) ⌝ }
+    ensures { λ r. ⌜ writeTermCame (saying r (now (at .exit))) (now (out .exit)) ≡ writeTermGives (now (term .entry)) (length (now (out .entry))) ⌝ }
 {
     say(operations::write_term(term, out), at)
 }

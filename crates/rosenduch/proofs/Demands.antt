@@ -1,6 +1,7 @@
 -- The three demands. Each field is one theorem: demand 1 by the definitions' lines, demand 2 by fit and by the machine's steps, demand 3 by the tree of the lowest rule.
+use Rattle.fit.proofs.Laws.{as-dedukti}
+use Rattle.rosenduch.specs.Operations.{Operations, Promised}
 use Rattle.rosenduch.specs.Demands.{Demand1, Demand2, Demand3}
-use Rattle.rosenduch.proofs.Outcomes.{takes-every-input}
 use Rattle.rosenduch.proofs.Refusals.{refuses-bad}
 use Rattle.rosenduch.proofs.Zeros.{leaves-zeros}
 use Rattle.rosenduch.proofs.OneRule.{matches-rule, builds-left, built-then, matched-then}
@@ -8,21 +9,33 @@ use Rattle.rosenduch.proofs.Trees.{compiles-tree, finds-by-tree}
 use Rattle.rosenduch.proofs.Roots.{rewrites-root, rewrites-by-tree}
 use Rattle.rosenduch.proofs.Runs.{runs-by-tree, runs-by-fit}
 
-pub demand-1 : Demand1
-demand-1 = record { takes-every-input = takes-every-input; refuses-bad = refuses-bad; leaves-zeros = leaves-zeros }
+module _ (ops : Operations) (kept : Promised ops) where
+  pub demand-1 : Demand1 ops
+  demand-1 = record { refuses-bad = refuses-bad ops kept; leaves-zeros = leaves-zeros ops kept }
 
-pub demand-2 : Demand2
-demand-2 =
-    record {
-      matches = λ book number rule term g f i room r bodies lengths p. matches-rule book number rule term g f i room r bodies lengths p;
-      rewrites = λ book tree term k i room r out p. rewrites-root book tree term k i room r out p;
-      rewrites-by = λ book tree term g i room r out p. rewrites-by-tree book tree term g i room r out p;
-      simplifies = λ book tree term k i budget room r out p. runs-by-fit book tree k term i budget room r out p;
-      simplifies-by = λ book tree term g i budget room r out p. runs-by-tree book tree term g i budget room r out p;
-      builds = builds-left;
-      built-matched = built-then;
-      matched-built = matched-then;
-    }
+  pub demand-2 : Demand2 ops
+  demand-2 =
+      record {
+        dedukti = λ book number rule term g f i. as-dedukti book g number rule f term i;
+        matches = λ book number rule term g f i room o p. matches-rule book number rule term g f i room o (kept .match-rule book number term room o p);
+        rewrites = λ book tree term k i room o p. rewrites-root ops kept book tree term k i room o (kept .rewrite-root book tree term room o p);
+        rewrites-by = λ book tree term g i room o p. rewrites-by-tree book tree term g i room o (kept .rewrite-root book tree term room o p);
+        simplifies = λ book tree term k i budget room o p. runs-by-fit ops kept book tree k term i budget room o (kept .simplify book tree term budget room o p);
+        simplifies-by = λ book tree term g i budget room o p. runs-by-tree book tree term g i budget room o (kept .simplify book tree term budget room o p);
+        builds = λ book number rule g f b i room o p. builds-left book number rule g f b i room o (kept .build-left book number _ _ room o p);
+        built-matched = λ book number bodies lengths l room o p d. (
+            let k = built-then book number bodies lengths l room o (kept .build-left book number bodies lengths room o p) d in
+            (k .0, k .1, λ more h m q. k .2 more h m (kept .match-rule book number (k .0) more m q))
+            );
+        matched-built = λ book number term room m p d. (
+            let k = matched-then book number term room m (kept .match-rule book number term room m p) d in
+            (k .0, k .1, λ more h o q. k .2 more h o (kept .build-left book number (k .0) (m .lengths) more o q))
+            );
+      }
 
-pub demand-3 : Demand3
-demand-3 = record { compiles = compiles-tree; finds = λ book tree term k i room r bodies lengths p. finds-by-tree book tree k term i room r bodies lengths p }
+  pub demand-3 : Demand3 ops
+  demand-3 =
+      record {
+        compiles = compiles-tree ops kept;
+        finds = λ book tree term k i room o p. finds-by-tree ops kept book tree k term i room o (kept .match-tree tree term room o p);
+      }

@@ -14,7 +14,7 @@ use Rattle.fit.specs.Fit.{IsBody}
 use Rattle.fit.specs.Match.{leftIn}
 use Rattle.fit.specs.Lowest.{Fitting}
 use Rattle.fit.proofs.Laws.{WithinTerm, unique, accepted-good, LowestIs, LowestFits, lowest-none, lowest-some}
-use Rattle.walk.specs.Demand.{NothingFits, LowestFit}
+use Rattle.walk.specs.Demand.{NothingFits, LowestFit, OnlyBodies}
 
 module _ (book : List ℕ) (accepted : checkBook book ≡ Good) (t : Row) (i : IsBody t) where
   within : WithinTerm t
@@ -32,10 +32,12 @@ module _ (book : List ℕ) (accepted : checkBook book ≡ Good) (t : Row) (i : I
         record {
           is = s .found;
           fits = s .fits;
-          only = λ c g x h. unique (s .rule .vars) (leftIn (s .rule)) (accepted-good book accepted (f .number) (s .rule) (s .found)) t within (i .one) c (f .bodies) g (s .fits) x h;
           lowest = λ m h. s .earlier m (omega arith) h;
         },
       )
+
+  pub only-bodies : (number : ℕ) (rule : Rule) (b : ℕ → Row) → LowestFit book (words t) number rule b → OnlyBodies (words t) rule b
+  only-bodies number rule b low c g x h = unique (rule .vars) (leftIn rule) (accepted-good book accepted number rule (low .is)) t within (i .one) c b g (low .fits) x h
 
 -- ---- two that are the lowest are one
 module _ (book ws : List ℕ) (n m : ℕ) (rule other : Rule) (b c : ℕ → Row) (low : LowestFit book ws n rule b) (also : LowestFit book ws m other c) where
@@ -50,5 +52,5 @@ module _ (book ws : List ℕ) (n m : ℕ) (rule other : Rule) (b c : ℕ → Row
   pub same-rule : rule ≡ other
   same-rule = let e : some rule ≡ some other = sym (low .is) ∙ ap (ruleAt book) same-number ∙ also .is in cc
 
-  pub same-bodies : (x : ℕ) → x < rule .vars → b x ≡ c x
-  same-bodies x h = also .only b (rw same-rule at (low .fits)) x (rw same-rule at h)
+  pub same-bodies : OnlyBodies ws other c → (x : ℕ) → x < rule .vars → b x ≡ c x
+  same-bodies only x h = only b (rw same-rule at (low .fits)) x (rw same-rule at h)

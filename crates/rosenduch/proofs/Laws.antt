@@ -1,6 +1,9 @@
 -- What a crate above may cite of this one, and nothing else.
 
--- The three demands.
+-- The three demands, of any twelve operations that hand back what the definitions give; and that what is given settles what comes back.
 pub use Rattle.rosenduch.proofs.Demands.{demand-1, demand-2, demand-3}
--- P1 to P10, as marked.
-pub use Rattle.rosenduch.proofs.Computed.{all-as-marked}
+pub use Rattle.rosenduch.proofs.Settled.{settles}
+-- Book A's tree, and P1 to P10, as marked.
+pub use Rattle.rosenduch.proofs.Computed.{marked-exercises}
+-- The wrong programs that document 01 names are shut out.
+pub use Rattle.rosenduch.proofs.WrongPrograms.{all-shut-out}

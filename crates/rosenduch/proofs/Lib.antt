@@ -1,5 +1,6 @@
 -- What a crate above may cite is Laws.
-mod Outcomes
+mod Given
+mod Settled
 mod Refusals
 mod Zeros
 mod OneRule
@@ -9,4 +10,5 @@ mod Roots
 mod Runs
 mod Demands
 mod Computed
+mod WrongPrograms
 pub mod Laws

@@ -12,18 +12,37 @@ use borrow.Author.Tests.{le-leb, lt-leb}
 use Rattle.term.specs.declared.check.Checked.the-variants.{Good}
 use Rattle.term.specs.declared.answer.Answer.{Answer}
 use Rattle.term.specs.declared.answer.Answer.the-variants.{Done, NoFit, Short, Over}
+use Rattle.term.specs.Answer.{Answered, saying, answered}
 use Rattle.term.specs.Word.{pick}
 use Rattle.term.specs.Row.{Row, words}
 use Rattle.term.specs.Check.{IsTerm, termLimits}
-use Rattle.term.proofs.Laws.{never, tree-good, padded-fits}
+use Rattle.term.proofs.Laws.{tree-good, padded-fits, answered-same}
 use Rattle.book.specs.Book.{Rule, checkBook, ruleAt}
 use Rattle.fit.specs.Fit.{build, IsBody, Fits, matching}
-use Rattle.fit.specs.Match.{leftIn, bodyList, lengthList, fittedO, matchRule, matchAnswer, matchWords, matchLengths}
-use Rattle.fit.specs.Build.{withinLimits, refused, built, limited, buildLeft, buildAnswer, buildWords}
-use Rattle.fit.proofs.Laws.{WithinTerm, GoodRule, sound, unique, none-fits, tree-of, accepted-good, refused-answer, fitted-room, fitted-short, same-bodies, limited-is, refused-built, built-built, match-one-rule, build-given, build-match, match-build}
-use Rattle.rosenduch.specs.Promises.{MatchRulePromised, BuildLeftPromised}
+use Rattle.fit.specs.Match.{leftIn, bodyList, lengthList, GivesBodies, fittedO, matchRule, matchAnswer, matchWords, matchLengths, MatchRuleOutcome, matchedCame, matchRuleGives}
+use Rattle.fit.specs.Build.{withinLimits, Built, refused, built, limited, buildLeft, buildAnswer, buildWords, BuildLeftOutcome, buildLeftGives}
+use Rattle.fit.proofs.Laws.{WithinTerm, GoodRule, sound, unique, none-fits, tree-of, accepted-good, refused-answer, fitted-room, fitted-short, same-bodies, limited-is, refused-built, built-built, match-one-rule, build-given as build-of, build-match, match-build}
+use Rattle.walk.specs.Demand.{OnlyBodies}
 use Rattle.rosenduch.specs.Steps.{Leaves}
-use Rattle.rosenduch.specs.Demands.{GivesBodies, MatchesRule, Written}
+use Rattle.rosenduch.specs.Demands.{MatchesRule, Written}
+use Rattle.rosenduch.proofs.Given.{match-given, build-given}
+
+-- ---- what is said with two numbers is two
+module _ (said : Answered) where
+  differ : (n m i j : ℕ) → (n ≡ m → ⊥) → said ≡ saying n i → said ≡ saying m j → ⊥
+  differ n m i j d p q = d (ap (λ (a : Answered). a .number) (sym p ∙ q))
+
+  pub none-done : said ≡ answered NoFit → said ≡ answered Done → ⊥
+  none-done = differ 1 0 0 0 (λ e. omega (arith, e))
+
+  pub none-short : said ≡ answered NoFit → said ≡ answered Short → ⊥
+  none-short = differ 1 13 0 0 (λ e. omega (arith, e))
+
+  pub done-short : said ≡ answered Done → said ≡ answered Short → ⊥
+  done-short = differ 0 13 0 0 (λ e. omega (arith, e))
+
+  pub none-over : said ≡ answered NoFit → said ≡ answered Over → ⊥
+  none-over = differ 1 15 0 0 (λ e. omega (arith, e))
 
 module _ (book : List ℕ) (number : ℕ) (rule : Rule) (term : List ℕ) (accepted : checkBook book ≡ Good) (found : ruleAt book number ≡ some rule) (i : IsTerm term) where
   within : WithinTerm (i .tree)
@@ -42,21 +61,27 @@ module _ (book : List ℕ) (number : ℕ) (rule : Rule) (term : List ℕ) (accep
   of-tree : (b : ℕ → Row) → Fits (rule .vars) (leftIn rule) term b → Fits (rule .vars) (leftIn rule) (words (i .tree)) b
   of-tree b f = rw (i .same) at f
 
-  module _ (room : ℕ) (r : Answer) (bodies lengths : List ℕ) (p : MatchRulePromised book number term room r bodies lengths) where
+  module _ (room : ℕ) (o : MatchRuleOutcome) (p : o ≡ matchRuleGives book number term room) where
+    came : o ≡ matchedCame room (matchRule book number term)
+    came = p ∙ match-given book number term room
+
+    says : (a : Answer) → matchAnswer room (matchRule book number term) ≡ a → o .said ≡ answered a
+    says a e = ap (λ (q : MatchRuleOutcome). q .said) came ∙ ap answered e
+
     -- no bodies
     module _ (e : matching (leftIn rule) (i .tree) ≡ none) where
       nothing : (b : ℕ → Row) → Fits (rule .vars) (leftIn rule) term b → ⊥
       nothing b f = none-fits (rule .vars) (leftIn rule) good-rule (i .tree) within (i .one) e b (of-tree b f)
 
-      says-none : r ≡ NoFit
-      says-none = p .0 ∙ ap (matchAnswer room) (matched none e) ∙ refused-answer room NoFit
+      says-none : o .said ≡ answered NoFit
+      says-none = says NoFit (ap (matchAnswer room) (matched none e) ∙ refused-answer room NoFit)
 
-      when-none : MatchesRule rule term room r bodies lengths
+      when-none : MatchesRule rule term room o
       when-none =
           record {
             none-fits = λ z. nothing;
             none-said = λ z. says-none;
-            found = λ z. never (let q = says-none in cc);
+            found = λ z. absurd (none-done (o .said) says-none z);
             given = λ b f h. absurd (nothing b f);
             short = λ b f h. absurd (nothing b f);
           }
@@ -69,51 +94,52 @@ module _ (book : List ℕ) (number : ℕ) (rule : Rule) (term : List ℕ) (accep
       fits : Fits (rule .vars) (leftIn rule) term b
       fits = rw (i .same) fits-tree
 
-      only : (c : ℕ → Row) → Fits (rule .vars) (leftIn rule) term c → (x : ℕ) → x < rule .vars → c x ≡ b x
+      only : OnlyBodies term rule b
       only c f x h = unique (rule .vars) (leftIn rule) good-rule (i .tree) within (i .one) c b (of-tree c f) fits-tree x h
 
-      with-room : length (bodyList b 0 (rule .vars)) ≤ room → (r ≡ Done) × GivesBodies room rule b bodies lengths
+      with-room : length (bodyList b 0 (rule .vars)) ≤ room → (o .said ≡ answered Done) × GivesBodies room (rule .vars) b (o .bodies) (o .lengths)
       with-room h =
           let m = matched (some b) e in
           let g = fitted-room room (rule .vars) b h in (
-            p .0 ∙ ap (matchAnswer room) m ∙ g .0,
-            record { bodies-are = p .1 ∙ ap (matchWords room) m ∙ g .1; lengths-are = p .2 ∙ ap (matchLengths room) m ∙ g .2 },
+            says Done (ap (matchAnswer room) m ∙ g .0),
+            record {
+              bodies-are = ap (λ (q : MatchRuleOutcome). q .bodies) came ∙ ap (matchWords room) m ∙ g .1;
+              lengths-are = ap (λ (q : MatchRuleOutcome). q .lengths) came ∙ ap (matchLengths room) m ∙ g .2;
+            },
           )
 
-      without-room : room < length (bodyList b 0 (rule .vars)) → r ≡ Short
-      without-room h = p .0 ∙ ap (matchAnswer room) (matched (some b) e) ∙ fitted-short room (rule .vars) b h
+      without-room : room < length (bodyList b 0 (rule .vars)) → o .said ≡ answered Short
+      without-room h = says Short (ap (matchAnswer room) (matched (some b) e) ∙ fitted-short room (rule .vars) b h)
 
-      not-none : r ≡ NoFit → ⊥
+      not-none : o .said ≡ answered NoFit → ⊥
       not-none z = go (decLe (length (bodyList b 0 (rule .vars))) room)
         where
           go : Dec (length (bodyList b 0 (rule .vars)) ≤ room) → ⊥
-          go (yes h) = let a = with-room h .0 in never (cc)
-          go (no h) = let a = without-room (omega arith) in never (cc)
+          go (yes h) = none-done (o .said) z (with-room h .0)
+          go (no h) = none-short (o .said) z (without-room (omega arith))
 
-      found-them : r ≡ Done
-          → (b : ℕ → Row) × Fits (rule .vars) (leftIn rule) term b × ((c : ℕ → Row) → Fits (rule .vars) (leftIn rule) term c → (x : ℕ) → x < rule .vars → c x ≡ b x) × GivesBodies room rule b bodies lengths
+      found-them : o .said ≡ answered Done → (b : ℕ → Row) × Fits (rule .vars) (leftIn rule) term b × OnlyBodies term rule b × GivesBodies room (rule .vars) b (o .bodies) (o .lengths)
       found-them z = go (decLe (length (bodyList b 0 (rule .vars))) room)
         where
-          go : Dec (length (bodyList b 0 (rule .vars)) ≤ room)
-              → (b : ℕ → Row) × Fits (rule .vars) (leftIn rule) term b × ((c : ℕ → Row) → Fits (rule .vars) (leftIn rule) term c → (x : ℕ) → x < rule .vars → c x ≡ b x) × GivesBodies room rule b bodies lengths
+          go : Dec (length (bodyList b 0 (rule .vars)) ≤ room) → (b : ℕ → Row) × Fits (rule .vars) (leftIn rule) term b × OnlyBodies term rule b × GivesBodies room (rule .vars) b (o .bodies) (o .lengths)
           go (yes h) = (b, fits, only, with-room h .1)
-          go (no h) = let a = without-room (omega arith) in never (cc)
+          go (no h) = absurd (done-short (o .said) z (without-room (omega arith)))
 
       -- other bodies that fit are these
       same : (c : ℕ → Row) → Fits (rule .vars) (leftIn rule) term c
           → (bodyList c 0 (rule .vars) ≡ bodyList b 0 (rule .vars)) × (lengthList c 0 (rule .vars) ≡ lengthList b 0 (rule .vars))
       same c f = same-bodies c b (rule .vars) 0 (λ x a k. only c f x (omega arith))
 
-      given-them : (c : ℕ → Row) → Fits (rule .vars) (leftIn rule) term c → length (bodyList c 0 (rule .vars)) ≤ room → (r ≡ Done) × GivesBodies room rule c bodies lengths
+      given-them : (c : ℕ → Row) → Fits (rule .vars) (leftIn rule) term c → length (bodyList c 0 (rule .vars)) ≤ room → (o .said ≡ answered Done) × GivesBodies room (rule .vars) c (o .bodies) (o .lengths)
       given-them c f h =
           let s = same c f in
           let w = with-room (rw (s .0) at h) in
           (w .0, record { bodies-are = rw (s .0) (w .1 .bodies-are); lengths-are = rw (s .1) (w .1 .lengths-are) })
 
-      short-of : (c : ℕ → Row) → Fits (rule .vars) (leftIn rule) term c → room < length (bodyList c 0 (rule .vars)) → r ≡ Short
+      short-of : (c : ℕ → Row) → Fits (rule .vars) (leftIn rule) term c → room < length (bodyList c 0 (rule .vars)) → o .said ≡ answered Short
       short-of c f h = without-room (rw (same c f .0) at h)
 
-      when-some : MatchesRule rule term room r bodies lengths
+      when-some : MatchesRule rule term room o
       when-some =
           record {
             none-fits = λ z. absurd (not-none z);
@@ -123,83 +149,94 @@ module _ (book : List ℕ) (number : ℕ) (rule : Rule) (term : List ℕ) (accep
             short = short-of;
           }
 
-    pub matches-rule : MatchesRule rule term room r bodies lengths
+    pub matches-rule : MatchesRule rule term room o
     matches-rule = go (matching (leftIn rule) (i .tree)) refl
       where
-        go : (o : Option (ℕ → Row)) → matching (leftIn rule) (i .tree) ≡ o → MatchesRule rule term room r bodies lengths
+        go : (m : Option (ℕ → Row)) → matching (leftIn rule) (i .tree) ≡ m → MatchesRule rule term room o
         go none e = when-none e
         go (some b) e = when-some b e
 
 -- ---- a row that is built or written
-module _ (room : ℕ) (t : Row) (r : Answer) (out : List ℕ) (p : r ≡ buildAnswer room (limited t)) (q : out ≡ buildWords room (limited t)) where
+module _ (room : ℕ) (t : Row) (said : Answered) (out : List ℕ) (p : said ≡ answered (buildAnswer room (limited t))) (q : out ≡ buildWords room (limited t)) where
   module _ (w : withinLimits t ≡ true) where
     limited-within : limited t ≡ built t
     limited-within = limited-is t ∙ ap (λ b. pick b (built t) (refused Over)) w
 
-    within-answer : r ≡ pick (leb (length (words t)) room) Done Short
-    within-answer = p ∙ ap (buildAnswer room) limited-within ∙ built-built room t .0
+    within-answer : said ≡ answered (pick (leb (length (words t)) room) Done Short)
+    within-answer = p ∙ ap answered (ap (buildAnswer room) limited-within ∙ built-built room t .0)
 
-    leaves-row : length (words t) ≤ room → (r ≡ Done) × Leaves room t out
+    leaves-row : length (words t) ≤ room → (said ≡ answered Done) × Leaves room t out
     leaves-row h = (
-      within-answer ∙ ap (λ b. pick b Done Short) (le-leb (length (words t)) room h),
+      within-answer ∙ ap (λ b. answered (pick b Done Short)) (le-leb (length (words t)) room h),
       record { fits = h; words-are = q ∙ ap (buildWords room) limited-within ∙ built-built room t .1 ∙ padded-fits room (words t) h },
     )
 
-    short-row : room < length (words t) → r ≡ Short
-    short-row h = within-answer ∙ ap (λ b. pick b Done Short) (lt-leb (length (words t)) room h)
+    short-row : room < length (words t) → said ≡ answered Short
+    short-row h = within-answer ∙ ap (λ b. answered (pick b Done Short)) (lt-leb (length (words t)) room h)
 
-  over-row : withinLimits t ≡ false → r ≡ Over
-  over-row w = p ∙ ap (buildAnswer room) (limited-is t ∙ ap (λ b. pick b (built t) (refused Over)) w) ∙ refused-built room Over .0
+  over-row : withinLimits t ≡ false → said ≡ answered Over
+  over-row w = p ∙ ap answered (ap (buildAnswer room) (limited-is t ∙ ap (λ b. pick b (built t) (refused Over)) w) ∙ refused-built room Over .0)
 
-  pub is-written : Written room t r out
+  pub is-written : Written room t said out
   is-written = record { done = leaves-row; short = short-row; over = over-row }
 
   -- "no rule fits" is not among these
-  pub never-none : r ≡ NoFit → ⊥
-  never-none z = go (withinLimits t) refl
+  pub never-none : said ≡ answered NoFit → ⊥
+  never-none z = go (withinLimits t) refl (decLe (length (words t)) room)
     where
-      fits : (b : Bool) → pick b Done Short ≡ NoFit → ⊥
-      fits true e = never (cc)
-      fits false e = never (cc)
-
-      go : (c : Bool) → withinLimits t ≡ c → ⊥
-      go false w = let a = over-row w in never (cc)
-      go true w = fits (leb (length (words t)) room) (sym (within-answer w) ∙ z)
+      go : (c : Bool) → withinLimits t ≡ c → Dec (length (words t) ≤ room) → ⊥
+      go false w d = none-over said z (over-row w)
+      go true w (yes h) = none-done said z (leaves-row w h .0)
+      go true w (no h) = none-short said z (short-row w (omega arith))
 
 pub builds-left : (book : List ℕ) (number : ℕ) (rule : Rule) → checkBook book ≡ Good → ruleAt book number ≡ some rule
     → (b : ℕ → Row) → ((x : ℕ) → x < rule .vars → IsBody (b x))
-    → (room : ℕ) (r : Answer) (out : List ℕ) → BuildLeftPromised book number (bodyList b 0 (rule .vars)) (lengthList b 0 (rule .vars) ++ replicate (16 - rule .vars) 0) room r out
-    → Written room (build b 0 (leftIn rule)) r out
-builds-left book number rule g f b i room r out p =
-    let e = build-given book number rule g f b i in
-    is-written room (build b 0 (leftIn rule)) r out (p .0 ∙ ap (buildAnswer room) e) (p .1 ∙ ap (buildWords room) e)
+    → (room : ℕ) (o : BuildLeftOutcome) → o ≡ buildLeftGives book number (bodyList b 0 (rule .vars)) (lengthList b 0 (rule .vars) ++ replicate (16 - rule .vars) 0) room
+    → Written room (build b 0 (leftIn rule)) (o .said) (o .out)
+builds-left book number rule g f b i room o p =
+    let e = p ∙ build-given book number (bodyList b 0 (rule .vars)) (lengthList b 0 (rule .vars) ++ replicate (16 - rule .vars) 0) room in
+    let l = build-of book number rule g f b i in
+    is-written room (build b 0 (leftIn rule)) (o .said) (o .out)
+    (ap (λ (q : BuildLeftOutcome). q .said) e ∙ ap (λ (x : Built). answered (buildAnswer room x)) l)
+    (ap (λ (q : BuildLeftOutcome). q .out) e ∙ ap (buildWords room) l)
 
 -- ---- built, then matched; matched, then built
 pub built-then : (book : List ℕ) (number : ℕ) (bodies lengths : List ℕ) → length lengths ≡ 16
-    → (room : ℕ) (r : Answer) (out : List ℕ) → BuildLeftPromised book number bodies lengths room r out → r ≡ Done
-    → (term : List ℕ) × (out ≡ term ++ replicate (room - length term) 0)
-    × ((more : ℕ) → length bodies ≤ more → (s : Answer) (back many : List ℕ) → MatchRulePromised book number term more s back many
-    → (s ≡ Done) × (back ≡ bodies ++ replicate (more - length bodies) 0) × (many ≡ lengths))
-built-then book number bodies lengths l room r out p d =
-    let k = build-match book number bodies lengths l room (sym (p .0) ∙ d) in (
+    → (room : ℕ) (o : BuildLeftOutcome) → o ≡ buildLeftGives book number bodies lengths room → o .said ≡ answered Done
+    → (term : List ℕ) × (o .out ≡ term ++ replicate (room - length term) 0)
+    × ((more : ℕ) → length bodies ≤ more → (m : MatchRuleOutcome) → m ≡ matchRuleGives book number term more
+    → (m .said ≡ answered Done) × (m .bodies ≡ bodies ++ replicate (more - length bodies) 0) × (m .lengths ≡ lengths))
+built-then book number bodies lengths l room o p d =
+    let e = p ∙ build-given book number bodies lengths room in
+    let k = build-match book number bodies lengths l room (answered-same _ Done (sym (ap (λ (q : BuildLeftOutcome). q .said) e) ∙ d)) in (
       k .0,
-      p .1 ∙ k .1,
-      λ more h s back many q. (let m = k .2 more h in (q .0 ∙ m .0, q .1 ∙ m .1, q .2 ∙ m .2)),
+      ap (λ (q : BuildLeftOutcome). q .out) e ∙ k .1,
+      λ more h m q. (
+          let f = q ∙ match-given book number (k .0) more in
+          let x = k .2 more h in (
+            ap (λ (y : MatchRuleOutcome). y .said) f ∙ ap answered (x .0),
+            ap (λ (y : MatchRuleOutcome). y .bodies) f ∙ x .1,
+            ap (λ (y : MatchRuleOutcome). y .lengths) f ∙ x .2,
+          )
+          ),
     )
 
 pub matched-then : (book : List ℕ) (number : ℕ) (term : List ℕ)
-    → (room : ℕ) (r : Answer) (bodies lengths : List ℕ) → MatchRulePromised book number term room r bodies lengths → r ≡ Done
-    → (given : List ℕ) × (bodies ≡ given ++ replicate (room - length given) 0)
-    × ((more : ℕ) → length term ≤ more → (s : Answer) (out : List ℕ) → BuildLeftPromised book number given lengths more s out
-    → (s ≡ Done) × (out ≡ term ++ replicate (more - length term) 0))
-matched-then book number term room r bodies lengths p d =
-    let k = match-build book number term room (sym (p .0) ∙ d) in (
+    → (room : ℕ) (m : MatchRuleOutcome) → m ≡ matchRuleGives book number term room → m .said ≡ answered Done
+    → (given : List ℕ) × (m .bodies ≡ given ++ replicate (room - length given) 0)
+    × ((more : ℕ) → length term ≤ more → (o : BuildLeftOutcome) → o ≡ buildLeftGives book number given (m .lengths) more
+    → (o .said ≡ answered Done) × (o .out ≡ term ++ replicate (more - length term) 0))
+matched-then book number term room m p d =
+    let e = p ∙ match-given book number term room in
+    let k = match-build book number term room (answered-same _ Done (sym (ap (λ (y : MatchRuleOutcome). y .said) e) ∙ d)) in (
       k .0,
-      p .1 ∙ k .1,
-      λ more h s out q. (
-          let m = k .2 more h in (
-            q .0 ∙ ap (λ (l : List ℕ). buildAnswer more (buildLeft book number (k .0) l)) (p .2) ∙ m .0,
-            q .1 ∙ ap (λ (l : List ℕ). buildWords more (buildLeft book number (k .0) l)) (p .2) ∙ m .1,
+      ap (λ (y : MatchRuleOutcome). y .bodies) e ∙ k .1,
+      λ more h o q. (
+          let f = q ∙ build-given book number (k .0) (m .lengths) more in
+          let l = ap (λ (y : MatchRuleOutcome). buildLeft book number (k .0) (y .lengths)) e in
+          let x = k .2 more h in (
+            ap (λ (y : BuildLeftOutcome). y .said) f ∙ ap (λ (b : Built). answered (buildAnswer more b)) l ∙ ap answered (x .0),
+            ap (λ (y : BuildLeftOutcome). y .out) f ∙ ap (buildWords more) l ∙ x .1,
           )
           ),
     )

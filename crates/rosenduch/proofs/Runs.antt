@@ -12,6 +12,7 @@ use borrow.Author.Tests.{le-leb, lt-leb}
 use Rattle.term.specs.declared.check.Checked.the-variants.{Good}
 use Rattle.term.specs.declared.answer.Answer.{Answer}
 use Rattle.term.specs.declared.answer.Answer.the-variants.{Short}
+use Rattle.term.specs.Answer.{Answered, answered}
 use Rattle.term.specs.Word.{pick}
 use Rattle.term.specs.Row.{Row, words}
 use Rattle.term.specs.Check.{IsTerm, termLimits}
@@ -25,28 +26,28 @@ use Rattle.fit.proofs.Laws.{tree-of}
 use Rattle.steps.specs.Rewrite.{rewritten}
 use Rattle.steps.specs.Offset.{partAt, spliced}
 use Rattle.steps.specs.Step.{Nowhere, FoundAt, lowestOffset, Becomes}
-use Rattle.steps.specs.Simplify.{Run, Stopped, Ended, simplifyBy, simplifyAnswer, simplifyWords, simplifySteps}
-use Rattle.steps.specs.declared.simplify.Simplified.{Simplified}
+use Rattle.steps.specs.Simplify.{Run, Stopped, Ended, simplifyBy, simplifyAnswer, simplifyWords, simplifySteps, SimplifyOutcome, simplifyGives}
 use Rattle.steps.proofs.Laws.{StepsTo, EndsAs, StopsAs, RunIs, run-is, part-term, step-term, FirstFit, compiled-offset, rule-writes-right, simplify-runs, stopped-run, ended-run, steps-none, steps-more, step-made, makes-step}
 use Rattle.steps.proofs.Laws as machine
-use Rattle.rosenduch.specs.Promises.{SimplifyPromised}
+use Rattle.rosenduch.specs.Operations.{Operations, Promised}
 use Rattle.rosenduch.specs.Steps.{Leads, Ends, rests, used, Gives, given, short, over, broken, Runs, RestsBy, NextBy, BreaksBy, RestsFit, NextFit, BreaksNever}
 use Rattle.rosenduch.specs.Demands.{CompiledTree}
+use Rattle.rosenduch.proofs.Given.{run-given}
 use Rattle.rosenduch.proofs.Trees.{accepted-book, tree-lies, tree-short}
-use Rattle.rosenduch.proofs.Fitted.{nothing-fits, lowest-fit}
+use Rattle.rosenduch.proofs.Fitted.{nothing-fits, lowest-fit, only-bodies}
 
 -- ---- by any tree
 module _ (book tree : List ℕ) where
   abbrev LeadsBy : ℕ → Row → Row → Type 0
   LeadsBy = Leads (NextBy book tree)
 
-  abbrev EndsBy : ℕ → ℕ → Row → Answer → Type 0
+  abbrev EndsBy : ℕ → ℕ → Row → Answered → Type 0
   EndsBy = Ends (RestsBy book tree) (NextBy book tree)
 
-  abbrev GivesBy : ℕ → ℕ → Row → Simplified → List ℕ → Type 0
+  abbrev GivesBy : ℕ → ℕ → Row → SimplifyOutcome → Type 0
   GivesBy = Gives (RestsBy book tree) (NextBy book tree) (BreaksBy book tree)
 
-  abbrev RunsBy : ℕ → ℕ → Row → Simplified → List ℕ → Type 0
+  abbrev RunsBy : ℕ → ℕ → Row → SimplifyOutcome → Type 0
   RunsBy = Runs (RestsBy book tree) (NextBy book tree) (BreaksBy book tree)
 
   leads : (n : ℕ) (t v : Row) → StepsTo book tree n t v → LeadsBy n t v
@@ -57,67 +58,71 @@ module _ (book tree : List ℕ) where
       let m = step-made book tree t (k .0) (k .1) in
       (k .0, (m .0, m .1, m .2, m .3), m .4, leads n (k .0) v (k .2))
 
-  ends : (budget n : ℕ) (v : Row) (a : Answer) → EndsAs book tree budget n v a → EndsBy budget n v a
-  ends budget n v a (machine.rests e q) = rests e q
-  ends budget n v a (machine.used e m at f q) = used e m (spliced v at (rewritten book f)) (at, f, q, refl)
+  ends : (budget n : ℕ) (v : Row) (a : Answer) → EndsAs book tree budget n v a → EndsBy budget n v (answered a)
+  ends budget n v a (machine.rests e q) = rests (ap answered e) q
+  ends budget n v a (machine.used e m at f q) = used (ap answered e) m (spliced v at (rewritten book f)) (at, f, q, refl)
 
   -- the numbers that are said are those of the run
   led : (steps n : ℕ) (t v : Row) → steps ≡ n → LeadsBy n t v → LeadsBy steps t v
   led steps n t v e l = rw e l
 
-  ended : (budget steps n : ℕ) (v : Row) (answer a : Answer) → steps ≡ n → answer ≡ a → EndsBy budget n v a → EndsBy budget steps v answer
-  ended budget steps n v answer a e q x = rw (e, q) x
+  ended : (budget steps n : ℕ) (v : Row) (said a : Answered) → steps ≡ n → said ≡ a → EndsBy budget n v a → EndsBy budget steps v said
+  ended budget steps n v said a e q x = rw (e, q) x
 
-  module _ (budget room : ℕ) (t : Row) (r : Simplified) (out : List ℕ) where
-    gives-end : (n : ℕ) (a : Answer) (v : Row) → r .steps ≡ n → EndsBy budget n v a → r .answer ≡ pick (leb (length (words v)) room) a Short → out ≡ padded room (words v) → GivesBy budget room v r out
+  module _ (budget room : ℕ) (t : Row) (o : SimplifyOutcome) where
+    gives-end : (n : ℕ) (a : Answer) (v : Row) → o .steps ≡ n → EndsBy budget n v (answered a)
+        → o .said ≡ answered (pick (leb (length (words v)) room) a Short) → o .out ≡ padded room (words v) → GivesBy budget room v o
     gives-end n a v e x p q = go (decLe (length (words v)) room)
       where
-        go : Dec (length (words v) ≤ room) → GivesBy budget room v r out
+        go : Dec (length (words v) ≤ room) → GivesBy budget room v o
         go (yes h) =
-            let s = p ∙ ap (λ b. pick b a Short) (le-leb (length (words v)) room h) in
-            given (ended budget (r .steps) n v (r .answer) a e s x) (record { fits = h; words-are = q ∙ padded-fits room (words v) h })
+            let s = p ∙ ap (λ b. answered (pick b a Short)) (le-leb (length (words v)) room h) in
+            given (ended budget (o .steps) n v (o .said) (answered a) e s x) (record { fits = h; words-are = q ∙ padded-fits room (words v) h })
         go (no h) =
             let w : room < length (words v) = omega arith in
-            short a (ended budget (r .steps) n v a a e refl x) w (p ∙ ap (λ b. pick b a Short) (lt-leb (length (words v)) room w))
+            short (answered a) (ended budget (o .steps) n v (answered a) (answered a) e refl x) w (p ∙ ap (λ b. answered (pick b a Short)) (lt-leb (length (words v)) room w))
 
-    gives-stop : (n : ℕ) (a : Answer) (v : Row) → r .steps ≡ n → r .answer ≡ a → StopsAs book tree budget n v a → GivesBy budget room v r out
-    gives-stop n a v e p (machine.broken address q x) = broken address x (p ∙ q)
-    gives-stop n a v e p (machine.over q m at f x w) = over (omega (arith, e, m)) (spliced v at (rewritten book f)) (at, f, x, refl) w (p ∙ q)
+    gives-stop : (n : ℕ) (a : Answer) (v : Row) → o .steps ≡ n → o .said ≡ answered a → StopsAs book tree budget n v a → GivesBy budget room v o
+    gives-stop n a v e p (machine.broken address q x) = broken address x (p ∙ ap answered q)
+    gives-stop n a v e p (machine.over q m at f x w) = over (omega (arith, e, m)) (spliced v at (rewritten book f)) (at, f, x, refl) w (p ∙ ap answered q)
 
-    run-by : (run : Run) → RunIs book tree budget t run → r .answer ≡ simplifyAnswer room run → out ≡ simplifyWords room run → r .steps ≡ simplifySteps run → RunsBy budget room t r out
+    run-by : (run : Run) → RunIs book tree budget t run → o .said ≡ answered (simplifyAnswer room run) → o .out ≡ simplifyWords room run → o .steps ≡ simplifySteps run → RunsBy budget room t o
     run-by (Ended n a v) i p q s =
         let k = ended-run room n a v in
         let e = s ∙ k .2 in
         record {
           last = v;
-          counted = led (r .steps) n t v e (leads n t v (i .0));
+          counted = led (o .steps) n t v e (leads n t v (i .0));
           within = omega (arith, e, i .1);
-          gives = gives-end n a v e (ends budget n v a (i .2)) (p ∙ k .0) (q ∙ k .1);
+          gives = gives-end n a v e (ends budget n v a (i .2)) (p ∙ ap answered (k .0)) (q ∙ k .1);
         }
     run-by (Stopped n a) i p q s =
         let k = stopped-run room n a in
         let e = s ∙ k .2 in
         record {
           last = i .0;
-          counted = led (r .steps) n t (i .0) e (leads n t (i .0) (i .1));
+          counted = led (o .steps) n t (i .0) e (leads n t (i .0) (i .1));
           within = omega (arith, e, i .2);
-          gives = gives-stop n a (i .0) e (p ∙ k .0) (i .3);
+          gives = gives-stop n a (i .0) e (p ∙ ap answered (k .0)) (i .3);
         }
 
-  pub runs-by-tree : (term : List ℕ) → checkBook book ≡ Good → IsTerm term → (budget room : ℕ) (r : Simplified) (out : List ℕ) → SimplifyPromised book tree term budget room r out
-      → Runs (RestsBy book tree) (NextBy book tree) (BreaksBy book tree) budget room (treeOf term) r out
-  runs-by-tree term g i budget room r out p =
+  pub runs-by-tree : (term : List ℕ) → checkBook book ≡ Good → IsTerm term → (budget room : ℕ) (o : SimplifyOutcome) → o ≡ simplifyGives book tree term budget room
+      → Runs (RestsBy book tree) (NextBy book tree) (BreaksBy book tree) budget room (treeOf term) o
+  runs-by-tree term g i budget room o p =
+      let q = p ∙ run-given book tree term budget room in
       let e = simplify-runs book tree term budget g (tree-good termLimits term i) in
-      run-by budget room (treeOf term) r out (simplifyBy book tree budget (treeOf term)) (run-is book tree budget (treeOf term))
-      (p .0 ∙ ap (simplifyAnswer room) e) (p .1 ∙ ap (simplifyWords room) e) (p .2 ∙ ap simplifySteps e)
+      run-by budget room (treeOf term) o (simplifyBy book tree budget (treeOf term)) (run-is book tree budget (treeOf term))
+      (ap (λ (x : SimplifyOutcome). x .said) q ∙ ap (λ (x : Run). answered (simplifyAnswer room x)) e)
+      (ap (λ (x : SimplifyOutcome). x .out) q ∙ ap (simplifyWords room) e)
+      (ap (λ (x : SimplifyOutcome). x .steps) q ∙ ap simplifySteps e)
 
 -- ---- by the compiled tree
-module _ (book tree : List ℕ) (k : CompiledTree book tree) where
+module _ (ops : Operations) (kept : Promised ops) (book tree : List ℕ) (k : CompiledTree ops book tree) where
   abbrev accepted : checkBook book ≡ Good
-  accepted = accepted-book book tree k
+  accepted = accepted-book ops kept book tree k
 
   first : (t : Row) → IsBody t → FirstFit book t (lowestOffset book tree t)
-  first t i = compiled-offset book accepted tree (tree-short book tree k) (tree-lies book tree k) t i
+  first t i = compiled-offset book accepted tree (tree-short ops kept book tree k) (tree-lies ops kept book tree k) t i
 
   nothing-at : (t : Row) → IsBody t → RestsBy book tree t → RestsFit book t
   nothing-at t i e at h = nothing-fits book accepted (partAt t at) (part-term t i at h) (rested at h)
@@ -139,6 +144,7 @@ module _ (book tree : List ℕ) (k : CompiledTree book tree) where
             rule = s .0;
             bodies = x .1 .bodies;
             lowest = s .1;
+            only = only-bodies book accepted (partAt t (x .0)) (part-term t i (x .0) (f .0)) (x .1 .number) (s .0) (x .1 .bodies) (s .1);
             is = x .3 ∙ ap (spliced t (x .0)) (rule-writes-right book (x .1) (s .0) (s .1 .is));
           }
 
@@ -160,22 +166,22 @@ module _ (book tree : List ℕ) (k : CompiledTree book tree) where
       let m = leads-fit n (l .0) v (next-term t (l .0) i (l .1) (l .2)) (l .3) in
       ((l .0, next-fit t (l .0) i (l .1), l .2, m .0), m .1)
 
-  ends-fit : (budget n : ℕ) (v : Row) (a : Answer) → IsBody v → EndsBy book tree budget n v a → Ends (RestsFit book) (NextFit book) budget n v a
+  ends-fit : (budget n : ℕ) (v : Row) (a : Answered) → IsBody v → EndsBy book tree budget n v a → Ends (RestsFit book) (NextFit book) budget n v a
   ends-fit budget n v a i (rests e q) = rests e (nothing-at v i q)
   ends-fit budget n v a i (used e m u x) = used e m u (next-fit v u i x)
 
-  gives-fit : (budget room : ℕ) (v : Row) (r : Simplified) (out : List ℕ) → IsBody v → GivesBy book tree budget room v r out → Gives (RestsFit book) (NextFit book) BreaksNever budget room v r out
-  gives-fit budget room v r out i (given x l) = given (ends-fit budget (r .steps) v (r .answer) i x) l
-  gives-fit budget room v r out i (short a x h e) = short a (ends-fit budget (r .steps) v a i x) h e
-  gives-fit budget room v r out i (over h u x w e) = over h u (next-fit v u i x) w e
-  gives-fit budget room v r out i (broken at x e) = absurd (breaks-never v at i x)
+  gives-fit : (budget room : ℕ) (v : Row) (o : SimplifyOutcome) → IsBody v → GivesBy book tree budget room v o → Gives (RestsFit book) (NextFit book) BreaksNever budget room v o
+  gives-fit budget room v o i (given x l) = given (ends-fit budget (o .steps) v (o .said) i x) l
+  gives-fit budget room v o i (short a x h e) = short a (ends-fit budget (o .steps) v a i x) h e
+  gives-fit budget room v o i (over h u x w e) = over h u (next-fit v u i x) w e
+  gives-fit budget room v o i (broken at x e) = absurd (breaks-never v at i x)
 
-  pub runs-by-fit : (term : List ℕ) → IsTerm term → (budget room : ℕ) (r : Simplified) (out : List ℕ) → SimplifyPromised book tree term budget room r out
-      → Runs (RestsFit book) (NextFit book) BreaksNever budget room (treeOf term) r out
-  runs-by-fit term i budget room r out p =
-      let x = runs-by-tree book tree term accepted i budget room r out p in
-      let l = leads-fit (r .steps) (treeOf term) (x .last) (term-body term i) (x .counted) in
-      record { last = x .last; counted = l .0; within = x .within; gives = gives-fit budget room (x .last) r out (l .1) (x .gives) }
+  pub runs-by-fit : (term : List ℕ) → IsTerm term → (budget room : ℕ) (o : SimplifyOutcome) → o ≡ simplifyGives book tree term budget room
+      → Runs (RestsFit book) (NextFit book) BreaksNever budget room (treeOf term) o
+  runs-by-fit term i budget room o p =
+      let x = runs-by-tree book tree term accepted i budget room o p in
+      let l = leads-fit (o .steps) (treeOf term) (x .last) (term-body term i) (x .counted) in
+      record { last = x .last; counted = l .0; within = x .within; gives = gives-fit budget room (x .last) o (l .1) (x .gives) }
     where
       term-body : (ws : List ℕ) → IsTerm ws → IsBody (treeOf ws)
       term-body ws j = rw (tree-of termLimits ws j) (record { one = j .one; formed = j .formed; few = j .few; low = j .low; short = rw (j .same) at (j .short) })

@@ -7,18 +7,21 @@ use lib.ListN.{length, take, replicate}
 use lib.Seq.{take-append-add}
 use Rattle.term.specs.declared.check.Checked.the-variants.{Good}
 use Rattle.term.specs.declared.answer.Answer.the-variants.{Done}
+use Rattle.term.specs.Answer.{answered}
 use Rattle.term.specs.Check.{IsTerm, termLimits}
-use Rattle.term.proofs.Laws.{tree-good}
+use Rattle.term.proofs.Laws.{tree-good, answered-same}
 use Rattle.book.specs.Book.{checkBook}
 use Rattle.tree.specs.Compile.{bookTree}
-use Rattle.tree.specs.Compiled.{treeWords, compileAnswer, compileWords}
-use Rattle.tree.specs.declared.compile.Compiled.{Compiled}
-use Rattle.tree.proofs.Laws.{Lies, TreeMade, done-made, compile-writes}
+use Rattle.tree.specs.Layout.{treeWords}
+use Rattle.tree.proofs.Laws.{Lies}
+use Rattle.compiler.specs.Compiled.{compileAnswer, compileWords, compileLength, CompileOutcome, compileCame, compileGives}
+use Rattle.compiler.proofs.Laws.{TreeMade, done-made, compiled-lies, compiled-short, compile-writes}
 use Rattle.walk.specs.Demand.{TreeFinds}
-use Rattle.walk.specs.declared.by_tree.TreeMatch.{TreeMatch}
-use Rattle.walk.proofs.Laws.{compiled-lies, compiled-short, tree-finds}
-use Rattle.rosenduch.specs.Promises.{CompilePromised, MatchTreePromised}
+use Rattle.walk.specs.ByTree.{MatchTreeOutcome, matchTreeGives}
+use Rattle.walk.proofs.Laws.{tree-finds}
+use Rattle.rosenduch.specs.Operations.{Operations, Promised}
 use Rattle.rosenduch.specs.Demands.{CompiledTree}
+use Rattle.rosenduch.proofs.Given.{compile-given}
 
 take-zeros : (j m : ℕ) → take {A = ℕ} j (replicate m 0) ≡ replicate (m - (m - j)) 0
 take-zeros zero m = let e : m - (m - 0) ≡ 0 = omega arith in rw e
@@ -43,9 +46,12 @@ take-padded ws room many h k =
     ∙ take-append-add ws (replicate (room - length ws) 0) (many - length ws)
     ∙ ap (ws ++_) (take-zeros (many - length ws) (room - length ws) ∙ ap (λ (i : ℕ). replicate {A = ℕ} i 0) n)
 
-module _ (book tree : List ℕ) (k : CompiledTree book tree) where
+module _ (ops : Operations) (kept : Promised ops) (book tree : List ℕ) (k : CompiledTree ops book tree) where
+  given : k .o ≡ compileCame (answered (compileAnswer (k .room) book)) (compileLength (k .room) book) (compileWords (k .room) book)
+  given = kept .compile book (k .room) (k .o) (k .came) ∙ compile-given book (k .room)
+
   made : TreeMade (k .room) book
-  made = done-made (k .room) book (sym (k .promised .0) ∙ k .done)
+  made = done-made (k .room) book (answered-same _ Done (sym (ap (λ (q : CompileOutcome). q .said) given) ∙ k .done))
 
   pub accepted-book : checkBook book ≡ Good
   accepted-book = made .accepted
@@ -55,7 +61,7 @@ module _ (book tree : List ℕ) (k : CompiledTree book tree) where
   cut = k .room - (k .room - k .many)
 
   whole : length (treeWords book) ≤ k .many
-  whole = omega (arith, k .whole, k .promised .2, made .said)
+  whole = omega (arith, k .whole, ap (λ (q : CompileOutcome). q .words) given, made .said)
 
   written : (compileAnswer cut book ≡ Done) × (compileWords cut book ≡ treeWords book ++ replicate (cut - length (treeWords book)) 0)
   written = compile-writes cut book accepted-book (made .within) (omega (arith, made .fits, whole))
@@ -65,7 +71,7 @@ module _ (book tree : List ℕ) (k : CompiledTree book tree) where
 
   cut-is : tree ≡ compileWords cut book
   cut-is =
-      k .is ∙ ap (take (k .many)) (k .promised .1 ∙ made .words)
+      k .is ∙ ap (take (k .many)) (ap (λ (q : CompileOutcome). q .out) given ∙ made .words)
       ∙ take-padded (treeWords book) (k .room) (k .many) (made .fits) whole
       ∙ sym (written .1)
 
@@ -75,16 +81,14 @@ module _ (book tree : List ℕ) (k : CompiledTree book tree) where
   pub tree-short : length tree ≤ 16384
   tree-short = rw cut-is (compiled-short book cut (written .0) small)
 
-  pub finds-by-tree : (term : List ℕ) → IsTerm term → (room : ℕ) (r : TreeMatch) (bodies lengths : List ℕ) → MatchTreePromised tree term room r bodies lengths → TreeFinds book term room r bodies lengths
-  finds-by-tree term i room r bodies lengths p =
-      tree-finds book cut (written .0) small term (tree-good termLimits term i) room r bodies lengths (rw cut-is at p)
+  pub finds-by-tree : (term : List ℕ) → IsTerm term → (room : ℕ) (o : MatchTreeOutcome) → o ≡ matchTreeGives tree term room → TreeFinds book term room o
+  finds-by-tree term i room o p = tree-finds book accepted-book tree tree-lies tree-short term (tree-good termLimits term i) room o p
 
-pub compiles-tree : (book : List ℕ) → checkBook book ≡ Good → length (treeWords book) ≤ 16384
-    → (room : ℕ) → length (treeWords book) ≤ room → (c : Compiled) (out : List ℕ) → CompilePromised book room c out → (c .answer ≡ Done) × CompiledTree book (take (c .words) out)
-compiles-tree book g s room h c out p =
+pub compiles-tree : (ops : Operations) → Promised ops → (book : List ℕ) → checkBook book ≡ Good → length (treeWords book) ≤ 16384
+    → (room : ℕ) → length (treeWords book) ≤ room → (o : CompileOutcome) → ops .compile book room o → (o .said ≡ answered Done) × CompiledTree ops book (take (o .words) (o .out))
+compiles-tree ops kept book g s room h o p =
+    let q = kept .compile book room o p ∙ compile-given book room in
     let d = compile-writes room book g s h .0 in
-    let e = p .0 ∙ d in
-    let n = p .2 ∙ done-made room book d .said in (
-      e,
-      record { room = room; said = c; out = out; promised = p; done = e; many = c .words; whole = omega arith; small = omega (arith, n, s); is = refl },
-    )
+    let e = ap (λ (x : CompileOutcome). x .said) q ∙ ap answered d in
+    let n = ap (λ (x : CompileOutcome). x .words) q ∙ done-made room book d .said in
+    (e, record { room = room; o = o; came = p; done = e; many = o .words; whole = omega arith; small = omega (arith, n, s); is = refl })

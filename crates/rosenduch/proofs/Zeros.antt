@@ -11,29 +11,36 @@ use Rattle.term.specs.declared.check.Checked.{Checked}
 use Rattle.term.specs.declared.check.Checked.the-variants.{Good, Bad}
 use Rattle.term.specs.declared.answer.Answer.{Answer}
 use Rattle.term.specs.declared.answer.Answer.the-variants.{Done, BadTerm, BadBook, Short}
-use Rattle.term.specs.Answer.{numberOf}
+use Rattle.term.specs.Answer.{Answered, numberOf, answered}
 use Rattle.term.specs.Word.{pick}
 use Rattle.term.specs.Row.{Row, words}
 use Rattle.term.specs.Check.{check, termLimits}
 use Rattle.term.specs.Part.{padded}
 use Rattle.term.proofs.Laws.{padded-short}
 use Rattle.book.specs.Book.{checkBook}
-use Rattle.fit.specs.Match.{treeOf, matchRule}
-use Rattle.fit.specs.Build.{Built, refused, built, buildLeft, buildAnswer, buildWords}
+use Rattle.fit.specs.Match.{treeOf, matchRule, matchAnswer, MatchRuleOutcome}
+use Rattle.fit.specs.Build.{Built, refused, built, buildLeft, buildAnswer, buildWords, BuildLeftOutcome}
 use Rattle.fit.proofs.Laws.{refused-built, built-built, match-zeros}
-use Rattle.tree.proofs.Laws.{compile-zeros}
-use Rattle.walk.specs.ByTree.{matchTree}
-use Rattle.steps.specs.Rewrite.{rewriteRoot}
-use Rattle.steps.specs.Simplify.{Run, Stopped, Ended, simplifyBy, simplify, simplifyAnswer, simplifyWords}
+use Rattle.compiler.specs.Compiled.{compileAnswer, CompileOutcome}
+use Rattle.compiler.proofs.Laws.{compile-zeros}
+use Rattle.walk.specs.ByTree.{matchTree, MatchTreeOutcome}
+use Rattle.steps.specs.Rewrite.{rewriteRoot, RewriteRootOutcome}
+use Rattle.steps.specs.Simplify.{Run, Stopped, Ended, simplifyBy, simplify, simplifyAnswer, simplifyWords, SimplifyOutcome}
 use Rattle.steps.proofs.Laws.{EndsAs, rests, used, RunIs, run-is, simplify-bad-book, simplify-bad-term, simplify-runs, stopped-run, ended-run}
-use Rattle.text.specs.TermText.{termSaid}
-use Rattle.text.specs.BookText.{bookSaid}
-use Rattle.text.proofs.Laws.{read-term-zeros, write-term-zeros, read-book-zeros, write-book-zeros}
+use Rattle.text.specs.TermText.{termSaid, readAnswer, writeAnswer, ReadTermOutcome, WriteTermOutcome}
+use Rattle.text.specs.BookText.{bookSaid, readBookAnswer, writeBookAnswer, ReadBookOutcome, WriteBookOutcome}
+use Rattle.text.proofs.Laws.{read-term-gives, write-term-gives, read-book-gives, write-book-gives, read-term-zeros, write-term-zeros, read-book-zeros, write-book-zeros}
+use Rattle.rosenduch.specs.Operations.{Operations, Promised}
 use Rattle.rosenduch.specs.Demands.{LeavesZeros}
+use Rattle.rosenduch.proofs.Given.{match-given, build-given, compile-given, tree-given, root-given, run-given}
 
 -- an answer that is another has its number
 moved : (r a : Answer) → r ≡ a → 10 ≤ numberOf r → 10 ≤ numberOf a
 moved r a e h = rw e at h
+
+-- and so has what is said
+told : (said : Answered) (a : Answer) → said ≡ answered a → 10 ≤ said .number → 10 ≤ numberOf a
+told said a e h = omega (arith, h, ap (λ (q : Answered). q .number) e)
 
 -- what was to be given is refused only for want of room
 padded-zeros : (room : ℕ) (ws : List ℕ) (a : Answer) → numberOf a < 10 → 10 ≤ numberOf (pick (leb (length ws) room) a Short) → padded room ws ≡ replicate room 0
@@ -83,23 +90,51 @@ module _ (room : ℕ) where
 not-done : (r : Answer) → 10 ≤ numberOf r → r ≡ Done → ⊥
 not-done r h e = let k : 10 ≤ 0 = rw e at h in absurd (omega (arith, k))
 
-pub leaves-zeros : LeavesZeros
-leaves-zeros =
+pub leaves-zeros : (ops : Operations) → Promised ops → LeavesZeros ops
+leaves-zeros ops kept =
     record {
-      match-rule = λ book number term room r bodies lengths p. (
-        λ h. p .1 ∙ match-zeros room (matchRule book number term) (moved _ _ (p .0) h) .0,
-        λ h. p .2 ∙ match-zeros room (matchRule book number term) (moved _ _ (p .0) h) .1,
-      );
-      build-left = λ book number bodies lengths room r out p h. p .1 ∙ built-zeros room (buildLeft book number bodies lengths) (moved _ _ (p .0) h);
-      compile = λ book room r out p h. p .1 ∙ compile-zeros room book (moved _ _ (p .0) h);
-      match-tree = λ tree term room r bodies lengths p. (
-        λ h. p .1 ∙ match-zeros room (matchTree tree term) (moved _ _ (p .0) h) .0,
-        λ h. p .2 ∙ match-zeros room (matchTree tree term) (moved _ _ (p .0) h) .1,
-      );
-      rewrite-root = λ book tree term room r out p h. p .1 ∙ built-zeros room (rewriteRoot book tree term) (moved _ _ (p .0) h);
-      simplify = λ book tree term budget room r out p h. p .1 ∙ simplify-zeros room book tree term budget (moved _ _ (p .0) h);
-      read-book = λ text room r out p h. p .1 ∙ read-book-zeros room (bookSaid text) (not-done _ (moved _ _ (p .0) h));
-      write-book = λ book room r out p h. p .1 ∙ write-book-zeros room book (not-done _ (moved _ _ (p .0) h));
-      read-term = λ text room r out p h. p .1 ∙ read-term-zeros room (termSaid text) (not-done _ (moved _ _ (p .0) h));
-      write-term = λ term room r out p h. p .1 ∙ write-term-zeros room term (not-done _ (moved _ _ (p .0) h));
+      match-rule = λ book number term room o p. (
+          let e = kept .match-rule book number term room o p ∙ match-given book number term room in (
+            λ h. ap (λ (q : MatchRuleOutcome). q .bodies) e ∙ match-zeros room (matchRule book number term) (told (o .said) (matchAnswer room (matchRule book number term)) (ap (λ (q : MatchRuleOutcome). q .said) e) h) .0,
+            λ h. ap (λ (q : MatchRuleOutcome). q .lengths) e ∙ match-zeros room (matchRule book number term) (told (o .said) (matchAnswer room (matchRule book number term)) (ap (λ (q : MatchRuleOutcome). q .said) e) h) .1,
+          )
+          );
+      build-left = λ book number bodies lengths room o p h. (
+          let e = kept .build-left book number bodies lengths room o p ∙ build-given book number bodies lengths room in
+          ap (λ (q : BuildLeftOutcome). q .out) e ∙ built-zeros room (buildLeft book number bodies lengths) (told (o .said) (buildAnswer room (buildLeft book number bodies lengths)) (ap (λ (q : BuildLeftOutcome). q .said) e) h)
+          );
+      compile = λ book room o p h. (
+          let e = kept .compile book room o p ∙ compile-given book room in
+          ap (λ (q : CompileOutcome). q .out) e ∙ compile-zeros room book (told (o .said) (compileAnswer room book) (ap (λ (q : CompileOutcome). q .said) e) h)
+          );
+      match-tree = λ tree term room o p. (
+          let e = kept .match-tree tree term room o p ∙ tree-given tree term room in (
+            λ h. ap (λ (q : MatchTreeOutcome). q .bodies) e ∙ match-zeros room (matchTree tree term) (told (o .said) (matchAnswer room (matchTree tree term)) (ap (λ (q : MatchTreeOutcome). q .said) e) h) .0,
+            λ h. ap (λ (q : MatchTreeOutcome). q .lengths) e ∙ match-zeros room (matchTree tree term) (told (o .said) (matchAnswer room (matchTree tree term)) (ap (λ (q : MatchTreeOutcome). q .said) e) h) .1,
+          )
+          );
+      rewrite-root = λ book tree term room o p h. (
+          let e = kept .rewrite-root book tree term room o p ∙ root-given book tree term room in
+          ap (λ (q : RewriteRootOutcome). q .out) e ∙ built-zeros room (rewriteRoot book tree term) (told (o .said) (buildAnswer room (rewriteRoot book tree term)) (ap (λ (q : RewriteRootOutcome). q .said) e) h)
+          );
+      simplify = λ book tree term budget room o p h. (
+          let e = kept .simplify book tree term budget room o p ∙ run-given book tree term budget room in
+          ap (λ (q : SimplifyOutcome). q .out) e ∙ simplify-zeros room book tree term budget (told (o .said) (simplifyAnswer room (simplify book tree budget term)) (ap (λ (q : SimplifyOutcome). q .said) e) h)
+          );
+      read-book = λ text room o p h. (
+          let e = kept .read-book text room o p ∙ read-book-gives text room in
+          ap (λ (q : ReadBookOutcome). q .out) e ∙ read-book-zeros room (bookSaid text) (not-done (readBookAnswer room (bookSaid text)) (told (o .said) (readBookAnswer room (bookSaid text)) (ap (λ (q : ReadBookOutcome). q .said) e) h))
+          );
+      write-book = λ book room o p h. (
+          let e = kept .write-book book room o p ∙ write-book-gives book room in
+          ap (λ (q : WriteBookOutcome). q .out) e ∙ write-book-zeros room book (not-done (writeBookAnswer room book) (told (o .said) (writeBookAnswer room book) (ap (λ (q : WriteBookOutcome). q .said) e) h))
+          );
+      read-term = λ text room o p h. (
+          let e = kept .read-term text room o p ∙ read-term-gives text room in
+          ap (λ (q : ReadTermOutcome). q .out) e ∙ read-term-zeros room (termSaid text) (not-done (readAnswer room (termSaid text)) (told (o .said) (readAnswer room (termSaid text)) (ap (λ (q : ReadTermOutcome). q .said) e) h))
+          );
+      write-term = λ term room o p h. (
+          let e = kept .write-term term room o p ∙ write-term-gives term room in
+          ap (λ (q : WriteTermOutcome). q .out) e ∙ write-term-zeros room term (not-done (writeAnswer room term) (told (o .said) (writeAnswer room term) (ap (λ (q : WriteTermOutcome). q .said) e) h))
+          );
     }

@@ -1,5 +1,5 @@
-pub mod Checks
-pub mod Promises
+pub mod Operations
 pub mod Steps
 pub mod Demands
 pub mod Marked
+pub mod WrongPrograms

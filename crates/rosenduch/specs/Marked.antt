@@ -1,14 +1,14 @@
--- Document 01, "Marked exercises": P1 to P10 as one table under one claim.
+-- Document 01, "Marked exercises": the tree of book A, and P1 to P10 as one table, under one claim.
 use Prim.Native.Nat.{ℕ}
 use mathlib.Core.Path.{_≡_}
 use mathlib.Core.List.{List, [], _∷_}
 use mathlib.Core.Option.{Option, none, some}
-use lib.ListN.{getD}
+use lib.ListN.{length, take, getD}
 use Rattle.book.specs.Book.{Rule, ruleAt}
 use Rattle.book.specs.Marked.{s, l, v, bookA, bookB}
 use Rattle.fit.specs.Match.{treeOf, bodyList}
 use Rattle.fit.specs.Lowest.{Fitting, lowest}
-use Rattle.tree.specs.Compiled.{treeWords}
+use Rattle.tree.specs.Layout.{treeWords}
 use Rattle.walk.specs.Walk.{Walked, NoneFits, RuleFits, DamagedAt, walk, noBook}
 
 -- a rule's number and its bodies in words, or none
@@ -62,3 +62,10 @@ AsMarked row =
 unfoldable pub AllAsMarked : List Marked → Type 0
 AllAsMarked [] = Unit {0}
 AllAsMarked (row ∷ rows) = AsMarked row × AllAsMarked rows
+
+pub record MarkedExercises : Type 0 where
+  -- "Book A's tree begins 2 0 2 131074 8 65539 20 50", and has as many words as the program prints, `tree=51`
+  pub tree-begins : take 8 (treeWords bookA) ≡ 2 ∷ 0 ∷ 2 ∷ 131074 ∷ 8 ∷ 65539 ∷ 20 ∷ 50 ∷ []
+  pub tree-has : length (treeWords bookA) ≡ 51
+  -- "Matches, proved as marked"
+  pub matches : AllAsMarked marked

@@ -5,19 +5,19 @@ use mathlib.Core.Path.{_≡_}
 use mathlib.Core.Bool.{true, false}
 use mathlib.Core.List.{List, _++_}
 use lib.ListN.{length, replicate}
-use Rattle.term.specs.declared.answer.Answer.{Answer}
 use Rattle.term.specs.declared.answer.Answer.the-variants.{Done, BudgetUsed, Short, Damaged, Over}
+use Rattle.term.specs.Answer.{Answered, answered}
 use Rattle.term.specs.Row.{Row, words}
 use Rattle.book.specs.Book.{Rule}
 use Rattle.fit.specs.Match.{treeOf}
 use Rattle.fit.specs.Lowest.{Fitting}
 use Rattle.fit.specs.Build.{withinLimits}
-use Rattle.walk.specs.Demand.{NothingFits, LowestFit}
+use Rattle.walk.specs.Demand.{NothingFits, LowestFit, OnlyBodies}
 use Rattle.steps.specs.Right.{write}
 use Rattle.steps.specs.Rewrite.{rewritten}
 use Rattle.steps.specs.Offset.{partAt, spliced}
 use Rattle.steps.specs.Step.{Nowhere, FoundAt, Broken, lowestOffset}
-use Rattle.steps.specs.declared.simplify.Simplified.{Simplified}
+use Rattle.steps.specs.Simplify.{SimplifyOutcome}
 
 -- the term's words and then zeros
 pub record Leaves (room : ℕ) (t : Row) (out : List ℕ) : Type 0 where
@@ -32,25 +32,25 @@ module _ (Next : Row → Row → Type 0) where
 
 -- given also when a term rests: "until no offset has one or the budget is used"
 module _ (Rests : Row → Type 0) (Next : Row → Row → Type 0) where
-  pub data Ends (budget n : ℕ) (v : Row) (a : Answer) : Type 0 where
-    rests : a ≡ Done → Rests v → Ends budget n v a
-    used : a ≡ BudgetUsed → n ≡ budget → (u : Row) → Next v u → Ends budget n v a
+  pub data Ends (budget n : ℕ) (v : Row) (a : Answered) : Type 0 where
+    rests : a ≡ answered Done → Rests v → Ends budget n v a
+    used : a ≡ answered BudgetUsed → n ≡ budget → (u : Row) → Next v u → Ends budget n v a
 
 -- given also when a walk meets a damaged node before it finds a rule
 module _ (Rests : Row → Type 0) (Next : Row → Row → Type 0) (Breaks : Row → ℕ → Type 0) where
   -- what is answered and left after the last step
-  pub data Gives (budget room : ℕ) (v : Row) (r : Simplified) (out : List ℕ) : Type 0 where
-    given : Ends Rests Next budget (r .steps) v (r .answer) → Leaves room v out → Gives budget room v r out
-    short : (a : Answer) → Ends Rests Next budget (r .steps) v a → room < length (words v) → r .answer ≡ Short → Gives budget room v r out
-    over : r .steps < budget → (u : Row) → Next v u → withinLimits u ≡ false → r .answer ≡ Over → Gives budget room v r out
-    broken : (at : ℕ) → Breaks v at → r .answer ≡ Damaged at → Gives budget room v r out
+  pub data Gives (budget room : ℕ) (v : Row) (o : SimplifyOutcome) : Type 0 where
+    given : Ends Rests Next budget (o .steps) v (o .said) → Leaves room v (o .out) → Gives budget room v o
+    short : (a : Answered) → Ends Rests Next budget (o .steps) v a → room < length (words v) → o .said ≡ answered Short → Gives budget room v o
+    over : o .steps < budget → (u : Row) → Next v u → withinLimits u ≡ false → o .said ≡ answered Over → Gives budget room v o
+    broken : (at : ℕ) → Breaks v at → o .said ≡ answered (Damaged at) → Gives budget room v o
 
   -- "the steps counted are the steps of this definition"
-  pub record Runs (budget room : ℕ) (t : Row) (r : Simplified) (out : List ℕ) : Type 0 where
+  pub record Runs (budget room : ℕ) (t : Row) (o : SimplifyOutcome) : Type 0 where
     pub last : Row
-    pub counted : Leads Next (r .steps) t last
-    pub within : r .steps ≤ budget
-    pub gives : Gives budget room last r out
+    pub counted : Leads Next (o .steps) t last
+    pub within : o .steps ≤ budget
+    pub gives : Gives budget room last o
 
 -- ---- by any tree: "A step rewrites at the lowest offset where the walk finds a rule."
 module _ (book tree : List ℕ) where
@@ -76,6 +76,7 @@ module _ (book : List ℕ) where
     pub rule : Rule
     pub bodies : ℕ → Row
     pub lowest : LowestFit book (words (partAt v at)) number rule bodies
+    pub only : OnlyBodies (words (partAt v at)) rule bodies
     pub is : u ≡ spliced v at (write bodies 0 (treeOf (rule .right)))
 
 -- its tree is never damaged

@@ -1,17 +1,28 @@
 // The twelve public operations. Each takes every input, ends, and answers with document 01's numbers (`term::answer`). After a refusal, 10 or
-// more, each lent output holds zeros alone. The promises are in specs/Promises.antt.
+// more, each lent output holds zeros alone. What comes back is what the definition `xGives` of the crate that does the work gives.
+ghost use mathlib.Core.Path.{_≡_};
 ghost use lib.ListN.{length};
-ghost use Rattle.rosenduch.specs.Promises.{CheckTermPromised, CheckBookPromised, MatchRulePromised, BuildLeftPromised, CompilePromised, MatchTreePromised};
-ghost use Rattle.rosenduch.specs.Promises.{RewriteRootPromised, SimplifyPromised, ReadBookPromised, WriteBookPromised, ReadTermPromised, WriteTermPromised};
+ghost use Rattle.term.specs.Answer.{answered};
+ghost use Rattle.term.specs.Checked.{checkTermGives};
+ghost use Rattle.book.specs.Accept.{checkBookGives};
+ghost use Rattle.fit.specs.Match.{matchRuleCame, matchRuleGives};
+ghost use Rattle.fit.specs.Build.{buildLeftCame, buildLeftGives};
+ghost use Rattle.compiler.specs.Compiled.{compileCame, compileGives};
+ghost use Rattle.walk.specs.ByTree.{matchTreeCame, matchTreeGives};
+ghost use Rattle.steps.specs.Rewrite.{rewriteRootCame, rewriteRootGives};
+ghost use Rattle.steps.specs.Simplify.{simplifyCame, simplifyGives};
+ghost use Rattle.text.specs.TermText.{readTermCame, readTermGives, writeTermCame, writeTermGives};
+ghost use Rattle.text.specs.BookText.{readBookCame, readBookGives, writeBookCame, writeBookGives};
+use book::accept::Accepted;
+use compiler::compile::Compiled;
 use steps::simplify::Simplified;
 use term::answer::Answer;
 use term::check::Checked;
-use tree::compile::Compiled;
 use walk::by_tree::TreeMatch;
 
 // Whether the words are one term. Done, or BadTerm with the first bad place.
 pub fn check_term(words: &[u32]) -> Answer
-    ensures { λ r. ⌜ CheckTermPromised (now (words .entry)) r ⌝ }
+    ensures { λ r. ⌜ answered r ≡ checkTermGives (now (words .entry)) ⌝ }
 {
     match term::check::check_term(words) {
         Checked::Good => Answer::Done,
@@ -21,11 +32,11 @@ pub fn check_term(words: &[u32]) -> Answer
 
 // Whether the words are a book. Done, or BadBook with the first bad rule.
 pub fn check_book(book: &[u32]) -> Answer
-    ensures { λ r. ⌜ CheckBookPromised (now (book .entry)) r ⌝ }
+    ensures { λ r. ⌜ answered r ≡ checkBookGives (now (book .entry)) ⌝ }
 {
-    match book::book::check_book(book) {
-        Checked::Good => Answer::Done,
-        Checked::Bad(at) => Answer::BadBook(at),
+    match book::accept::accept_book(book) {
+        Accepted::Sound => Answer::Done,
+        Accepted::Refused(answer) => answer,
     }
 }
 
@@ -38,7 +49,7 @@ pub fn match_rule(
     bodies: &mut [u32],
     lengths: &mut [u32; 16],
 ) -> Answer
-    ensures { λ r. ⌜ MatchRulePromised (now (book .entry)) number (now (term .entry)) (length (now (bodies .entry))) r (now (bodies .exit)) (now (lengths .exit)) ⌝ }
+    ensures { λ r. ⌜ matchRuleCame (answered r) (now (bodies .exit)) (now (lengths .exit)) ≡ matchRuleGives (now (book .entry)) number (now (term .entry)) (length (now (bodies .entry))) ⌝ }
 {
     fit::rules::match_rule(book, number, term, bodies, lengths)
 }
@@ -52,7 +63,7 @@ pub fn build_left(
     lengths: &[u32; 16],
     out: &mut [u32],
 ) -> Answer
-    ensures { λ r. ⌜ BuildLeftPromised (now (book .entry)) number (now (bodies .entry)) (now (lengths .entry)) (length (now (out .entry))) r (now (out .exit)) ⌝ }
+    ensures { λ r. ⌜ buildLeftCame (answered r) (now (out .exit)) ≡ buildLeftGives (now (book .entry)) number (now (bodies .entry)) (now (lengths .entry)) (length (now (out .entry))) ⌝ }
 {
     fit::build::build_left(book, number, bodies, lengths, out)
 }
@@ -60,9 +71,9 @@ pub fn build_left(
 // Compiles a book into a tree. Done, with the tree, zeros after it, and how many words the tree has; else BadBook, or Short where the tree is
 // over 16,384 words or has no room.
 pub fn compile(book: &[u32], out: &mut [u32]) -> Compiled
-    ensures { λ r. ⌜ CompilePromised (now (book .entry)) (length (now (out .entry))) r (now (out .exit)) ⌝ }
+    ensures { λ r. ⌜ compileCame (answered (r .answer)) (r .words) (now (out .exit)) ≡ compileGives (now (book .entry)) (length (now (out .entry))) ⌝ }
 {
-    tree::compile::compile(book, out)
+    compiler::compile::compile(book, out)
 }
 
 // Matches a term by a tree, whole or damaged. Done, with the rule that the tree names, its bodies in variable order, zeros after them, and
@@ -73,7 +84,7 @@ pub fn match_tree(
     bodies: &mut [u32],
     lengths: &mut [u32; 16],
 ) -> TreeMatch
-    ensures { λ r. ⌜ MatchTreePromised (now (tree .entry)) (now (term .entry)) (length (now (bodies .entry))) r (now (bodies .exit)) (now (lengths .exit)) ⌝ }
+    ensures { λ r. ⌜ matchTreeCame (answered (r .answer)) (r .rule) (now (bodies .exit)) (now (lengths .exit)) ≡ matchTreeGives (now (tree .entry)) (now (term .entry)) (length (now (bodies .entry))) ⌝ }
 {
     walk::by_tree::match_tree(tree, term, bodies, lengths)
 }
@@ -81,7 +92,7 @@ pub fn match_tree(
 // Rewrites a term at its root by the rule that the tree names. Done, with the new term and zeros after it; NoFit where it names none; else
 // BadBook, BadTerm, Damaged, Over where the new term is over a limit, or Short.
 pub fn rewrite_root(book: &[u32], tree: &[u32], term: &[u32], out: &mut [u32]) -> Answer
-    ensures { λ r. ⌜ RewriteRootPromised (now (book .entry)) (now (tree .entry)) (now (term .entry)) (length (now (out .entry))) r (now (out .exit)) ⌝ }
+    ensures { λ r. ⌜ rewriteRootCame (answered r) (now (out .exit)) ≡ rewriteRootGives (now (book .entry)) (now (tree .entry)) (now (term .entry)) (length (now (out .entry))) ⌝ }
 {
     steps::rewrite::rewrite_root(book, tree, term, out)
 }
@@ -95,14 +106,14 @@ pub fn simplify(
     budget: u16,
     out: &mut [u32],
 ) -> Simplified
-    ensures { λ r. ⌜ SimplifyPromised (now (book .entry)) (now (tree .entry)) (now (term .entry)) budget (length (now (out .entry))) r (now (out .exit)) ⌝ }
+    ensures { λ r. ⌜ simplifyCame (answered (r .answer)) (r .steps) (now (out .exit)) ≡ simplifyGives (now (book .entry)) (now (tree .entry)) (now (term .entry)) budget (length (now (out .entry))) ⌝ }
 {
     steps::simplify::simplify(book, tree, term, budget, out)
 }
 
 // Reads the text of a book. Done, with the book and zeros after it; else BadText with the line, BadBook, or Short.
 pub fn read_book(text: &[u8], out: &mut [u32]) -> Answer
-    ensures { λ r. ⌜ ReadBookPromised (now (text .entry)) (length (now (out .entry))) r (now (out .exit)) ⌝ }
+    ensures { λ r. ⌜ readBookCame (answered r) (now (out .exit)) ≡ readBookGives (now (text .entry)) (length (now (out .entry))) ⌝ }
 {
     text::book_text::read_book(text, out)
 }
@@ -110,21 +121,21 @@ pub fn read_book(text: &[u8], out: &mut [u32]) -> Answer
 // Writes the text of a book. Done, with the text and zeros after it; else BadBook, or Short where the text is over 65,536 bytes or has no
 // room.
 pub fn write_book(book: &[u32], out: &mut [u8]) -> Answer
-    ensures { λ r. ⌜ WriteBookPromised (now (book .entry)) (length (now (out .entry))) r (now (out .exit)) ⌝ }
+    ensures { λ r. ⌜ writeBookCame (answered r) (now (out .exit)) ≡ writeBookGives (now (book .entry)) (length (now (out .entry))) ⌝ }
 {
     text::write_book::write_book(book, out)
 }
 
 // Reads the text of a term. Done, with the term and zeros after it; else BadText with the line, BadTerm, or Short.
 pub fn read_term(text: &[u8], out: &mut [u32]) -> Answer
-    ensures { λ r. ⌜ ReadTermPromised (now (text .entry)) (length (now (out .entry))) r (now (out .exit)) ⌝ }
+    ensures { λ r. ⌜ readTermCame (answered r) (now (out .exit)) ≡ readTermGives (now (text .entry)) (length (now (out .entry))) ⌝ }
 {
     text::term_text::read_term(text, out)
 }
 
 // Writes the text of a term. Done, with the text and zeros after it; else BadTerm or Short.
 pub fn write_term(term: &[u32], out: &mut [u8]) -> Answer
-    ensures { λ r. ⌜ WriteTermPromised (now (term .entry)) (length (now (out .entry))) r (now (out .exit)) ⌝ }
+    ensures { λ r. ⌜ writeTermCame (answered r) (now (out .exit)) ≡ writeTermGives (now (term .entry)) (length (now (out .entry))) ⌝ }
 {
     text::term_text::write_term(term, out)
 }

@@ -1,0 +1,44 @@
+-- An outcome in which the same is said in other words is the same outcome: the number and the place handed on for the answer.
+use mathlib.Core.Path.{_≡_, ap, _∙_}
+use mathlib.Core.List.{List}
+use Prim.Native.Nat.{ℕ}
+use Rattle.term.specs.Answer.{Answered}
+use Rattle.fit.specs.Match.{MatchRuleOutcome, matchRuleCame}
+use Rattle.fit.specs.Build.{BuildLeftOutcome, buildLeftCame}
+use Rattle.compiler.specs.Compiled.{CompileOutcome, compileCame}
+use Rattle.walk.specs.ByTree.{MatchTreeOutcome, matchTreeCame}
+use Rattle.steps.specs.Rewrite.{RewriteRootOutcome, rewriteRootCame}
+use Rattle.steps.specs.Simplify.{SimplifyOutcome, simplifyCame}
+use Rattle.text.specs.BookText.{ReadBookOutcome, readBookCame, WriteBookOutcome, writeBookCame}
+use Rattle.text.specs.TermText.{ReadTermOutcome, readTermCame, WriteTermOutcome, writeTermCame}
+
+module _ (said told : Answered) (e : said ≡ told) where
+  pub match-rule-told : (bodies lengths : List ℕ) (o : MatchRuleOutcome) → matchRuleCame told bodies lengths ≡ o → matchRuleCame said bodies lengths ≡ o
+  match-rule-told bodies lengths o p = ap (λ (a : Answered). matchRuleCame a bodies lengths) e ∙ p
+
+  pub build-left-told : (out : List ℕ) (o : BuildLeftOutcome) → buildLeftCame told out ≡ o → buildLeftCame said out ≡ o
+  build-left-told out o p = ap (λ (a : Answered). buildLeftCame a out) e ∙ p
+
+  pub compile-told : (words : ℕ) (out : List ℕ) (o : CompileOutcome) → compileCame told words out ≡ o → compileCame said words out ≡ o
+  compile-told words out o p = ap (λ (a : Answered). compileCame a words out) e ∙ p
+
+  pub match-tree-told : (rule : ℕ) (bodies lengths : List ℕ) (o : MatchTreeOutcome) → matchTreeCame told rule bodies lengths ≡ o → matchTreeCame said rule bodies lengths ≡ o
+  match-tree-told rule bodies lengths o p = ap (λ (a : Answered). matchTreeCame a rule bodies lengths) e ∙ p
+
+  pub rewrite-root-told : (out : List ℕ) (o : RewriteRootOutcome) → rewriteRootCame told out ≡ o → rewriteRootCame said out ≡ o
+  rewrite-root-told out o p = ap (λ (a : Answered). rewriteRootCame a out) e ∙ p
+
+  pub simplify-told : (steps : ℕ) (out : List ℕ) (o : SimplifyOutcome) → simplifyCame told steps out ≡ o → simplifyCame said steps out ≡ o
+  simplify-told steps out o p = ap (λ (a : Answered). simplifyCame a steps out) e ∙ p
+
+  pub read-book-told : (out : List ℕ) (o : ReadBookOutcome) → readBookCame told out ≡ o → readBookCame said out ≡ o
+  read-book-told out o p = ap (λ (a : Answered). readBookCame a out) e ∙ p
+
+  pub write-book-told : (out : List ℕ) (o : WriteBookOutcome) → writeBookCame told out ≡ o → writeBookCame said out ≡ o
+  write-book-told out o p = ap (λ (a : Answered). writeBookCame a out) e ∙ p
+
+  pub read-term-told : (out : List ℕ) (o : ReadTermOutcome) → readTermCame told out ≡ o → readTermCame said out ≡ o
+  read-term-told out o p = ap (λ (a : Answered). readTermCame a out) e ∙ p
+
+  pub write-term-told : (out : List ℕ) (o : WriteTermOutcome) → writeTermCame told out ≡ o → writeTermCame said out ≡ o
+  write-term-told out o p = ap (λ (a : Answered). writeTermCame a out) e ∙ p

@@ -1,0 +1,4 @@
+pub mod Calls
+pub mod Rust
+pub mod C
+pub mod Demands
