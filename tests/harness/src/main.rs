@@ -1,6 +1,8 @@
 //! Compares the library with the second program.
 //!
-//! - `harness compare --cases N --seed S`: the edges of document 01, then the cases of N seeds from S on.
+//! - `harness compare --cases N --seed S`: the edges, each printed by its name, then the cases of N seeds from S on.
+//! - `harness edges`: the edges alone.
+//! - `harness stack`: the edges in the library alone, within the stack that the process was given.
 //! - `harness soak SECONDS`: cases of fresh seeds until the time is over; 0 is for ever.
 //! - `harness show SEED`: the case of one seed, and what both make of it.
 //! - `harness program PATH`: the program `simplify` at that path, on files.
@@ -65,6 +67,11 @@ fn compare(cases: u64, from: u64) -> Result<(), String> {
     }
 }
 
+fn counted(edges: Result<usize, String>) -> Result<(), String> {
+    println!("{} edges: no difference", edges?);
+    Ok(())
+}
+
 fn main() -> ExitCode {
     let words: Vec<String> = std::env::args().skip(1).collect();
     let number = |at: usize| words.get(at).and_then(|word| word.parse::<u64>().ok());
@@ -73,9 +80,11 @@ fn main() -> ExitCode {
             let cases = value(&words, "--cases").unwrap_or(200_000);
             ended(compare(cases, value(&words, "--seed").unwrap_or(1)))
         }
+        Some("edges") => ended(counted(run::edges())),
+        Some("stack") => ended(counted(run::stack())),
         Some("soak") => ended(soak(number(1).unwrap_or(0))),
         Some("show") => ended(run::show(number(1).unwrap_or(0))),
         Some("program") if words.len() > 1 => ended(program::run(&words[1])),
-        _ => ended(Err("harness: compare, soak, show or program".to_string())),
+        _ => ended(Err("harness: compare, edges, stack, soak, show or program".to_string())),
     }
 }

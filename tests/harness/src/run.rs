@@ -6,10 +6,10 @@ use std::sync::Arc;
 use std::thread::{Builder, JoinHandle};
 use std::time::{Duration, Instant};
 
-use crate::case::OPERATIONS;
+use crate::case::{Case, OPERATIONS};
 use crate::edges;
 use crate::make::made;
-use crate::outcome::compare;
+use crate::outcome::{compare, library, Outcome};
 use crate::tally::Tally;
 
 const THREADS: usize = 2;
@@ -110,18 +110,34 @@ pub fn seeds(span: Span) -> Result<Tally, String> {
     Ok(tally)
 }
 
-/// The edges of document 01: how many there are, if each is answered as it says and both agree.
-pub fn edges() -> Result<usize, String> {
-    joined(spawn(|| {
-        let edges = edges::all();
-        for edge in &edges {
-            let told = compare(&edge.case).map_err(|why| format!("{}: {why}", edge.name))?;
-            if (told.number, told.at) != (edge.number, edge.at) {
-                return Err(format!("{}: {} at {}", edge.name, told.number, told.at));
+/// What the library makes of each edge, held to what is given for it, and to the second program where that is asked too; each is printed by its
+/// name. How many there are.
+fn judged(outcome: impl Fn(&Case) -> Result<Outcome, String>) -> Result<usize, String> {
+    let edges = edges::all()?;
+    let mut bad = 0;
+    for edge in &edges {
+        match outcome(&edge.case).and_then(|outcome| edge.judge(&outcome)) {
+            Ok(()) => println!("edge {}: ok", edge.full_name()),
+            Err(why) => {
+                println!("edge {}: FAILED\n{why}", edge.full_name());
+                bad += 1;
             }
         }
-        Ok(edges.len())
-    })?)
+    }
+    if bad > 0 {
+        return Err(format!("{bad} of {} edges failed", edges.len()));
+    }
+    Ok(edges.len())
+}
+
+/// The edges, in both.
+pub fn edges() -> Result<usize, String> {
+    joined(spawn(|| judged(compare))?)
+}
+
+/// The edges in the library alone, on this thread and within its stack.
+pub fn stack() -> Result<usize, String> {
+    judged(|case| Ok(library(case)))
 }
 
 /// Prints one case and what both make of it.

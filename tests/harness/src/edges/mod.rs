@@ -1,0 +1,132 @@
+//! The edges, each by name: a case and what document 01 gives for it, worked out by hand.
+
+mod books;
+mod building;
+mod compiling;
+mod damage;
+mod listed;
+mod matching;
+mod renumbering;
+mod rewriting;
+mod simplifying;
+mod terms;
+mod walking;
+mod words;
+
+use std::collections::BTreeSet;
+
+use crate::case::{Case, OPERATIONS};
+use crate::outcome::Outcome;
+
+/// What document 01 gives for a case. Where a result is not given, the second program alone says it.
+pub struct Told {
+    number: u32,
+    at: u64,
+    further: Option<u32>,
+    words: Option<Vec<u32>>,
+    lengths: Option<Vec<u32>>,
+    bytes: Option<Vec<u8>>,
+}
+
+pub struct Edge {
+    pub name: String,
+    pub case: Case,
+    pub told: Told,
+}
+
+/// A number and a place, and nothing of the results.
+fn answer(number: u32, at: u64) -> Told {
+    Told { number, at, further: None, words: None, lengths: None, bytes: None }
+}
+
+/// Done, with this result and zeros after it.
+fn done(words: Vec<u32>) -> Told {
+    Told { words: Some(words), ..answer(rosenduch::DONE, 0) }
+}
+
+/// A number with which all that is lent is zero afterwards, and the further result too.
+fn clear(number: u32, at: u64) -> Told {
+    Told { number, at, further: Some(0), words: Some(Vec::new()), lengths: Some(Vec::new()), bytes: Some(Vec::new()) }
+}
+
+/// Done, with bodies in variable order and their lengths.
+fn fits(bodies: &[Vec<u32>]) -> Told {
+    let lengths = bodies.iter().map(|body| body.len() as u32).collect();
+    Told { lengths: Some(lengths), ..done(bodies.concat()) }
+}
+
+const NONE_FITS: u32 = rosenduch::NO_FIT;
+const BAD_TERM: u32 = 11;
+const BAD_BOOK: u32 = 12;
+const NO_ROOM: u32 = 13;
+const DAMAGED: u32 = 14;
+const OVER: u32 = 15;
+const NO_RULE: u32 = 16;
+
+fn edge(name: impl Into<String>, case: Case, told: Told) -> Edge {
+    Edge { name: name.into(), case, told }
+}
+
+/// Groups of edges in one list.
+fn flat<const N: usize>(groups: [Vec<Edge>; N]) -> Vec<Edge> {
+    groups.into_iter().flatten().collect()
+}
+
+/// Whether a lent output holds a result and zeros after it.
+fn holds<T: PartialEq + Default>(lent: &[T], result: &Option<Vec<T>>) -> bool {
+    let Some(result) = result else { return true };
+    let zero = T::default();
+    lent.starts_with(result) && lent[result.len()..].iter().all(|value| *value == zero)
+}
+
+impl Told {
+    fn further(self, further: u32) -> Told {
+        Told { further: Some(further), ..self }
+    }
+
+    fn is(&self, outcome: &Outcome) -> bool {
+        (self.number, self.at) == (outcome.number, outcome.at)
+            && self.further.is_none_or(|further| further == outcome.further)
+            && holds(&outcome.words, &self.words)
+            && holds(&outcome.lengths, &self.lengths)
+            && holds(&outcome.bytes, &self.bytes)
+    }
+}
+
+impl Edge {
+    /// The operation and the name: no two edges have the same.
+    pub fn full_name(&self) -> String {
+        format!("{}, {}", OPERATIONS[self.case.operation()].name, self.name)
+    }
+
+    /// Whether the outcome is the one that is given.
+    pub fn judge(&self, outcome: &Outcome) -> Result<(), String> {
+        if self.told.is(outcome) {
+            return Ok(());
+        }
+        let Told { number, at, further, words, lengths, .. } = &self.told;
+        Err(format!("given: {number} at {at}, further {further:?}, words {words:?}, lengths {lengths:?}\ncame:  {outcome}"))
+    }
+}
+
+/// All edges, or a name that two of them have.
+pub fn all() -> Result<Vec<Edge>, String> {
+    let edges = flat([
+        listed::edges(),
+        terms::edges(),
+        books::edges(),
+        matching::edges(),
+        building::edges(),
+        renumbering::edges(),
+        compiling::edges(),
+        walking::edges(),
+        damage::edges(),
+        rewriting::edges(),
+        simplifying::edges(),
+    ]);
+    let mut names = BTreeSet::new();
+    match edges.iter().map(Edge::full_name).find(|name| !names.insert(name.clone())) {
+        Some(name) => Err(format!("two edges are called {name}")),
+        None => Ok(edges),
+    }
+}
