@@ -83,22 +83,18 @@ pub fn side_row(side: Side, d: u32, levels: u32, count: u32, words: &[u32], at: 
                 a = a + n;
                 left = left - 1;
             }
-            Front::Inside => match side_row(
-                side,
-                inside_word(w, d),
-                levels - 1,
-                count_of(w),
-                words,
-                next,
-            ) {
-                Passed::Done(b) => {
-                    a = b;
-                    left = left - 1;
+            Front::Inside => {
+                let inner = inside_word(w, d);
+                match side_row(side, inner, levels - 1, count_of(w), words, next) {
+                    Passed::Done(b) => {
+                        a = b;
+                        left = left - 1;
+                    }
+                    Passed::Stuck => {
+                        return Passed::Stuck;
+                    }
                 }
-                Passed::Stuck => {
-                    return Passed::Stuck;
-                }
-            },
+            }
             Front::Bad => {
                 return Passed::Stuck;
             }
