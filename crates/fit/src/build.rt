@@ -170,16 +170,8 @@ fn build_tree(
     let k = count_of(w);
     let next = at + 1;
     if kind_of(w) == PATTERN {
-        let Passed::Done(end) = build_variable(
-            w,
-            &left[next..],
-            d,
-            levels,
-            bodies,
-            lengths,
-            out,
-            to,
-        ) else {
+        let built = build_variable(w, &left[next..], d, levels, bodies, lengths, out, to);
+        let Passed::Done(end) = built else {
             return Both::Stuck;
         };
         return Both::Done(next + k as usize, end);

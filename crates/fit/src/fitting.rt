@@ -211,17 +211,9 @@ fn fit_tree(
         return Both::Stuck;
     }
     let inner = inside_word(w, d);
-    fit_row(
-        vars,
-        inner,
-        levels - 1,
-        count_of(w),
-        left,
-        at + 1,
-        term,
-        to + 1,
-        table,
-    )
+    let below = levels - 1;
+    let k = count_of(w);
+    fit_row(vars, inner, below, k, left, at + 1, term, to + 1, table)
 }
 
 // `count` trees of a left side, over as many of the term.

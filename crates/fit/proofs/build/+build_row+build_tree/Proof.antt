@@ -106,8 +106,8 @@ tree-body : (t : ℕ) → build-tree-lts.Need-returns-4 (tree-calls t) (tree-at 
 tree-body t c =
     let s = c .before .before .before .before .before .before .before .before .before .before .before .before .before .before .before .before .before .before .args in
     rw (c .before .before .before .before .before .before .before .before .before .before .count-of .ensures)
-    (build-body (s .d) (s .levels) (s .left .now) (s .at) (c .before .before .before .before .before .before .before .before .before .before .before .before .if2 .left) (s .bodies .now) (s .lengths .now) (s .out .now) (s .to) (sym (c .before .before .before .before .before .before .before .before .before .kind-of .ensures) ∙ c .before .before .before .before .before .before .before .before .if3 .taken) _ (c .before .end .given .0 .0)
-    (rw (suffix (s .at + 1) (s .left .now), c .before .end .given .1) at (c .before .before .before .before .before .build-variable .ensures)))
+    (build-body (s .d) (s .levels) (s .left .now) (s .at) (c .before .before .before .before .before .before .before .before .before .before .before .before .if2 .left) (s .bodies .now) (s .lengths .now) (s .out .now) (s .to) (sym (c .before .before .before .before .before .before .before .before .before .kind-of .ensures) ∙ c .before .before .before .before .before .before .before .before .if3 .taken) _ (c .before .built .given .0 .0)
+    (rw (suffix (s .at + 1) (s .left .now), c .before .built .given .1) at (c .before .before .before .before .before .build-variable .ensures)))
 
 tree-full : (t : ℕ) → build-tree-lts.Need-returns-5 (tree-calls t) (tree-at t) build-tree.Post
 tree-full t c =
