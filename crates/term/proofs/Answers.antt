@@ -17,13 +17,13 @@ use Rattle.term.specs.Row.{Row, width, words, ranks, nesting, Formed, Go
 use Rattle.term.specs.Check.{IsTerm}
 use Rattle.term.specs.Renumber.{GoodList, goodList, idBody, renumber, closed, toBody}
 use Rattle.term.specs.Part.{partEnd, ofTerm, part, bodyO, bodyOf, isSome, hasBody, sameWords, sameO, sameBody, written, padded, bodyAnswer, bodyWords}
-use Rattle.term.specs.told.Walk.{Stands, RowTold, SameTold}
+use Rattle.term.specs.told.Walk.{Stands, RowTold}
 use Rattle.term.proofs.Words.{never, and-left, and-right, and-both}
 use Rattle.term.proofs.Rows.{Reads, read-words, words-read, words-unique}
 use Rattle.term.proofs.Parts.{part-ends}
 use Rattle.term.proofs.Lists.{good-true, true-good}
 use Rattle.term.proofs.Renumbers.{length-renumber}
-use Rattle.term.proofs.Bodies.{closed-body, open-body, body-is, body-formed, body-keeps}
+use Rattle.term.proofs.Bodies.{closed-body, open-body, body-formed, body-keeps}
 
 -- ---- the part that the words begin with
 pub read-stands : (n : ℕ) (ws : List ℕ) (f : Row) (after : List ℕ) → Stands n 1 ws 0 f after → read 1 ws ≡ some (f, after)
@@ -277,41 +277,3 @@ module _ (d : ℕ) (ys ws : List ℕ) (c : ℕ) (zs vs : List ℕ) where
   pub bodies-same : (b : Row) → bodyOf d ys ws ≡ some b → bodyOf c zs vs ≡ some b → sameBody d ys ws c zs vs ≡ true
   unfolding sameBody
   bodies-same b i j = rw (i, j) (words-same (words b))
-
-  -- rows with the same images are equally long
-  as-long : (f t : Row) → renumber (idBody d ys) 0 f ≡ renumber (idBody c zs) 0 t → length (words t) ≡ length (words f)
-  as-long f t e = sym (length-renumber (idBody c zs) 0 t) ∙ ap (λ (r : Row). length (words r)) (sym e) ∙ length-renumber (idBody d ys) 0 f
-
-  module _ (g : goodList d ys ≡ true) (h : goodList c zs ≡ true) where
-    pub told-same : (a : ℕ) → SameTold (idBody d ys) (idBody c zs) 0 64 1 ws vs 0 (Done a) → a ≤ 4096 → true ≡ sameBody d ys ws c zs vs
-    unfolding SameTold sameBody bodyOf closed
-    told-same a told few =
-        sym
-        (rw (
-          g,
-          h,
-          part-stands ws (told .0) (told .2) (omega (arith, told .9, few)) (told .4),
-          part-stands vs (told .1) (told .3) (omega (arith, told .9, few, as-long (told .0) (told .1) (told .8))) (told .5),
-          closed-body d ys (told .0) (told .6),
-          closed-body c zs (told .1) (told .7),
-          told .8,
-        )
-        (words-same (words (renumber (idBody c zs) 0 (told .1)))))
-
-    pub told-both-long : (a : ℕ) → SameTold (idBody d ys) (idBody c zs) 0 64 1 ws vs 0 (Done a) → 4096 < a → false ≡ sameBody d ys ws c zs vs
-    unfolding SameTold bodyOf
-    told-both-long a told many = not-left (rw (g, part-long ws (told .0) (told .2) (omega (arith, told .9, many)) (told .4)))
-
-    pub told-differ : SameTold (idBody d ys) (idBody c zs) 0 64 1 ws vs 0 Stuck → false ≡ sameBody d ys ws c zs vs
-    unfolding SameTold closed
-    told-differ told = go (sameBody d ys ws c zs vs) refl
-      where
-        never-same : (b : Row) → BodyIs d ys ws b → BodyIs c zs vs b → ⊥
-        never-same b i j =
-            let p = body-is d ys (i .tree) b (i .body) in
-            let q = body-is c zs (j .tree) b (j .body) in
-            told (i .tree) (j .tree) (i .after) (j .after) (i .stands) (j .stands) (p .0) (q .0) (p .1 ∙ sym (q .1))
-
-        go : (x : Bool) → sameBody d ys ws c zs vs ≡ x → false ≡ x
-        go true e = let s = same-bodies e in absurd (never-same (s .0) (body-of d ys ws (s .0) (s .1)) (body-of c zs vs (s .0) (s .2)))
-        go false e = refl

@@ -11,6 +11,8 @@ mod Parts
 mod Images
 mod Walks
 mod Answers
+mod Pass
+mod Compare
 mod Leavings
 mod Imaged
 mod Heads

@@ -175,6 +175,14 @@ module _ (y : ℕ) (ys : List ℕ) (j : ℕ) where
       passed zero = refl
       passed (suc p) = omega arith
 
+  pub found-later : Sought → j < length ys → (y ≡ getD ys j 0 → ⊥) → position y ys ≡ j + 1 → ⊥
+  unfolding later
+  found-later s h n e = after (position y (drop (j + 1) ys)) (sym (sought-next s h n) ∙ e)
+    where
+      after : (p : ℕ) → later (j + 1) p ≡ j + 1 → ⊥
+      after zero q = omega arith
+      after (suc p) q = omega arith
+
 pub sought-first : (y : ℕ) (ys : List ℕ) → position y ys ≡ later 0 (position y (drop 0 ys))
 unfolding later
 sought-first y ys = passed (position y ys)

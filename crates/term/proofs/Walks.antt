@@ -2,27 +2,25 @@
 use mathlib.Core.Path.{_≡_, refl, sym, ap, ap₂, _∙_}
 use mathlib.Core.Bool.{Bool, true, false, _&&_}
 use mathlib.Core.List.{List, [], _∷_, _++_, append-assoc}
-use mathlib.Core.Option.{Option, none, some}
-use Prim.Native.Nat.{ℕ, zero, suc, _+_, _-_, _≤_, _<_, max}
+use mathlib.Core.Option.{some}
+use Prim.Native.Nat.{ℕ, suc, _+_, _-_, _≤_, _<_, max}
 use native.Mathlib.Omega.{arith}
 use native.Mathlib.Nat.{add-zero, suc-add, add-suc, le-max-left, le-max-right}
 use native.Mathlib.Numerals.{add-one}
 use lib.ListN.{length, drop, getD, set, length-append, length-drop}
 use lib.Seq.{sets, drop-cons, drop-drop, drop-at}
-use borrow.Author.Tests.{eqb-true, eqb-false}
-use Rattle.term.specs.declared.image.Image.{Image}
 use Rattle.term.specs.declared.image.Image.the-variants.{Word, None}
 use Rattle.term.specs.declared.renumber.Passed.{Passed}
 use Rattle.term.specs.declared.renumber.Passed.the-variants.{Done, Stuck}
 use Rattle.term.specs.Word
 use Rattle.term.specs.Word.{Head, rank, word, InTable, countOf, headOf}
 use Rattle.term.specs.Row.{Row, nothing, node, width, words, nesting, ranks, Formed}
-use Rattle.term.specs.Renumber.{inside, renumberHead, renumber, namedHead, named}
-use Rattle.term.specs.told.Walk.{imageOf, sameImage, insideWord, Stands, RowTold, SameTold}
-use Rattle.term.proofs.Words.{never, and-left, and-right, and-both, head-is, head-word, count-word}
+use Rattle.term.specs.Renumber.{inside, renumber, namedHead, named}
+use Rattle.term.specs.told.Walk.{imageOf, insideWord, Stands, RowTold}
+use Rattle.term.proofs.Words.{never, and-both, head-is, head-word, count-word}
 use Rattle.term.proofs.Rows.{words-unique}
-use Rattle.term.proofs.Renumbers.{length-renumber, count-renumber, inside-renumber}
-use Rattle.term.proofs.Images.{Imaged, imaged, no-image, inside-is, inside-imaged, same-image}
+use Rattle.term.proofs.Renumbers.{length-renumber}
+use Rattle.term.proofs.Images.{Imaged, imaged, no-image, inside-is, inside-imaged}
 
 -- ---- the first tree of a row that stands
 pub record First (levels count : ℕ) (ws : List ℕ) (at : ℕ) (f : Row) (after : List ℕ) : Type 0 where
@@ -109,9 +107,6 @@ pub same-row : (levels other count : ℕ) (ws : List ℕ) (at : ℕ) (f g : Row)
 same-row levels other count ws at f g after beyond s t =
     words-unique f g after beyond (s .formed) (t .formed) (s .wide ∙ sym (t .wide)) (sym (s .same) ∙ t .same) .0
 
-false-true : (a : Bool) → a ≡ false → a ≡ true → _≡_ {A = ℕ} 0 1
-false-true a p q = cc
-
 and-false-left : (a b : Bool) → a ≡ false → a && b ≡ false
 and-false-left true b e = never (cc)
 and-false-left false b e = refl
@@ -194,195 +189,3 @@ module _ (m : ℕ → ℕ → ℕ) (e levels count : ℕ) (ws : List ℕ) (at : 
                     (told .4 ∙ rw (length-renumber m (inside (i .head) e) (told .0))) (rest .5)),
               )
           shown i Stuck rest = λ f after s. right-stuck rest f after (first levels count ws at z f after s)
-
--- ---- images compared
-module _ (m n : ℕ → ℕ → ℕ) (e levels count : ℕ) (ws vs : List ℕ) (at : ℕ) where
-  pub same-done : count ≡ 0 → SameTold m n e levels count ws vs at (Done at)
-  unfolding SameTold words width Formed nesting ranks renumber named
-  same-done z = (nothing, nothing, drop at ws, drop at vs, none-stand ws, none-stand vs, refl, refl, refl, omega arith)
-    where
-      none-stand : (ws : List ℕ) → Stands levels count ws at nothing (drop at ws)
-      none-stand ws = record { formed = tt; few = omega arith; low = omega arith; wide = sym z; same = refl }
-
-  module _ (z : count ≡ 0 → ⊥) where
-    pub same-deep : levels ≡ 0 → SameTold m n e levels count ws vs at Stuck
-    unfolding SameTold
-    same-deep l f g after beyond s t a b q = omega (arith, l, first levels count ws at z f after s .levelled)
-
-    pub same-ended : length ws ≤ at → SameTold m n e levels count ws vs at Stuck
-    unfolding SameTold
-    same-ended l f g after beyond s t a b q = omega (arith, l, first levels count ws at z f after s .within)
-
-    pub same-ended-other : length vs ≤ at → SameTold m n e levels count ws vs at Stuck
-    unfolding SameTold
-    same-ended-other l f g after beyond s t a b q = omega (arith, l, first levels count vs at z g beyond t .within)
-
-    unnamed : (m : ℕ → ℕ → ℕ) (ws : List ℕ) (f : Row) (after : List ℕ) → imageOf m e (headOf (getD ws at 0)) ≡ None → First levels count ws at f after → named m e f ≡ true → ⊥
-    unfolding named
-    unnamed m ws f after q g a =
-        let x : named m e (node (g .head) (g .children) (g .right)) ≡ true = rw (g .is) at a in
-        let y : namedHead m e (g .head) ≡ false = no-image m e (g .head) (g .table) (g .low) (rw (g .word-is) q) in
-        never (false-true (namedHead m e (g .head)) y (and-left (namedHead m e (g .head)) _ x))
-
-    same-no-image : imageOf m e (headOf (getD ws at 0)) ≡ None → SameTold m n e levels count ws vs at Stuck
-    unfolding SameTold
-    same-no-image x f g after beyond s t a b q = unnamed m ws f after x (first levels count ws at z f after s) a
-
-    same-no-image-other : imageOf n e (headOf (getD vs at 0)) ≡ None → SameTold m n e levels count ws vs at Stuck
-    unfolding SameTold
-    same-no-image-other x f g after beyond s t a b q = unnamed n vs g beyond x (first levels count vs at z g beyond t) b
-
-    module _ (v u : ℕ) (x : imageOf m e (headOf (getD ws at 0)) ≡ Word v) (y : imageOf n e (headOf (getD vs at 0)) ≡ Word u) where
-      -- the head of a row that stands has the image
-      image-is : (m : ℕ → ℕ → ℕ) (ws : List ℕ) (v : ℕ) (f : Row) (after : List ℕ) → Imaged m e (getD ws at 0) v → (g : First levels count ws at f after) → word (renumberHead m e (g .head)) ≡ v
-      image-is m ws v f after i g =
-          let a : some (g .head) ≡ some (i .head) = sym (head-word (g .head) (g .table)) ∙ ap headOf (g .word-is) ∙ i .is in
-          let b : g .head ≡ i .head = cc in rw b (sym (i .out))
-
-      -- what two rows with the same images have in common
-      record Common (f g : Row) (after beyond : List ℕ) : Type 0 where
-        left : First levels count ws at f after
-        other : First levels count vs at g beyond
-        heads : renumberHead m e (left .head) ≡ renumberHead n e (other .head)
-        below : renumber m (inside (left .head) e) (left .children) ≡ renumber n (inside (other .head) e) (other .children)
-        beside : renumber m e (left .right) ≡ renumber n e (other .right)
-        named-left : (named m (inside (left .head) e) (left .children) ≡ true) × (named m e (left .right) ≡ true)
-        named-other : (named n (inside (other .head) e) (other .children) ≡ true) × (named n e (other .right) ≡ true)
-
-      named-parts : (m : ℕ → ℕ → ℕ) (h : Head) (kids rest : Row) → named m e (node h kids rest) ≡ true → (named m (inside h e) kids ≡ true) × (named m e rest ≡ true)
-      unfolding named
-      named-parts m h kids rest a =
-          let b = and-right (namedHead m e h) _ a in (and-left _ _ b, and-right (named m (inside h e) kids) _ b)
-
-      common : (f g : Row) (after beyond : List ℕ) → Stands levels count ws at f after → Stands levels count vs at g beyond → named m e f ≡ true → named n e g ≡ true → renumber m e f ≡ renumber n e g → Common f g after beyond
-      unfolding renumber
-      common f g after beyond s t a b q =
-          let l = first levels count ws at z f after s in
-          let o = first levels count vs at z g beyond t in
-          let r : node (renumberHead m e (l .head)) (renumber m (inside (l .head) e) (l .children)) (renumber m e (l .right)) ≡ node (renumberHead n e (o .head)) (renumber n (inside (o .head) e) (o .children)) (renumber n e (o .right)) = rw (l .is, o .is) at q in
-          record {
-            left = l;
-            other = o;
-            heads = cc;
-            below = cc;
-            beside = cc;
-            named-left = named-parts m (l .head) (l .children) (l .right) (rw (l .is) at a);
-            named-other = named-parts n (o .head) (o .children) (o .right) (rw (o .is) at b);
-          }
-
-      same-differ : (v ≡ u → ⊥) → SameTold m n e levels count ws vs at Stuck
-      unfolding SameTold
-      same-differ d f g after beyond s t a b q =
-          let c = common f g after beyond s t a b q in
-          d (sym (image-is m ws v f after (imaged m e (getD ws at 0) v x) (c .left)) ∙ ap word (c .heads) ∙ image-is n vs u g beyond (imaged n e (getD vs at 0) u y) (c .other))
-
-      module _ (same : v ≡ u) where
-        -- the two words have as many children, under as many abstractions
-        record Alike : Type 0 where
-          left : Imaged m e (getD ws at 0) v
-          other : Imaged n e (getD vs at 0) u
-          images : renumberHead m e (left .head) ≡ renumberHead n e (other .head)
-          counts : countOf (getD ws at 0) ≡ countOf (getD vs at 0)
-          inner : insideWord (getD ws at 0) e ≡ inside (left .head) e
-          inner-other : insideWord (getD ws at 0) e ≡ inside (other .head) e
-
-        count-of : (m : ℕ → ℕ → ℕ) (w v : ℕ) (i : Imaged m e w v) → countOf w ≡ Word.count (renumberHead m e (i .head))
-        count-of m w v i =
-            let h = head-is w (i .head) (i .is) in
-            ap countOf (sym (h .0)) ∙ count-word (i .head) (h .1) ∙ sym (count-renumber m e (i .head))
-
-        alike : Alike
-        alike =
-            let i = imaged m e (getD ws at 0) v x in
-            let j = imaged n e (getD vs at 0) u y in
-            let h = head-is (getD ws at 0) (i .head) (i .is) in
-            let k = head-is (getD vs at 0) (j .head) (j .is) in
-            let q : renumberHead m e (i .head) ≡ renumberHead n e (j .head) = same-image m n e (i .head) (j .head) (h .1) (k .1) (i .low) (j .low) (sym (i .out) ∙ same ∙ j .out) in
-            let l : insideWord (getD ws at 0) e ≡ inside (i .head) e = inside-imaged m e (getD ws at 0) v i in
-            record {
-              left = i;
-              other = j;
-              images = q;
-              counts = count-of m (getD ws at 0) v i ∙ ap Word.count q ∙ sym (count-of n (getD vs at 0) u j);
-              inner = l;
-              inner-other = l ∙ sym (inside-renumber m e (i .head) e) ∙ ap (λ (h : Head). inside h e) q ∙ inside-renumber n e (j .head) e;
-            }
-
-        -- a head that stands there is the one with the image
-        head-alike : (m : ℕ → ℕ → ℕ) (ws : List ℕ) (v : ℕ) (f : Row) (after : List ℕ) (g : First levels count ws at f after) (i : Imaged m e (getD ws at 0) v) → g .head ≡ i .head
-        head-alike m ws v f after g i =
-            let a : some (g .head) ≡ some (i .head) = sym (head-word (g .head) (g .table)) ∙ ap headOf (g .word-is) ∙ i .is in cc
-
-        pub same-stuck : SameTold m n (insideWord (getD ws at 0) e) (levels - 1) (countOf (getD ws at 0)) ws vs (at + 1) Stuck
-            → SameTold m n e levels count ws vs at Stuck
-        unfolding SameTold
-        same-stuck told f g after beyond s t a b q = shown alike (common f g after beyond s t a b q)
-          where
-            shown : Alike → Common f g after beyond → ⊥
-            shown k c =
-                let l : inside (c .left .head) e ≡ insideWord (getD ws at 0) e = ap (λ (h : Head). inside h e) (head-alike m ws v f after (c .left) (k .left)) ∙ sym (k .inner) in
-                let o : inside (c .other .head) e ≡ insideWord (getD ws at 0) e = ap (λ (h : Head). inside h e) (head-alike n vs u g beyond (c .other) (k .other)) ∙ sym (k .inner-other) in
-                told (c .left .children) (c .other .children) (words (c .left .right) ++ after) (words (c .other .right) ++ beyond)
-                (c .left .below) (rw (k .counts) (c .other .below))
-                (rw l at (c .named-left .0)) (rw o at (c .named-other .0)) (rw (l, o) at (c .below))
-
-        pub same-more : (a : ℕ) → 1 ≤ levels → at < length ws → at < length vs
-            → SameTold m n (insideWord (getD ws at 0) e) (levels - 1) (countOf (getD ws at 0)) ws vs (at + 1) (Done a)
-            → (r : Passed) → SameTold m n e levels (count - 1) ws vs a r → SameTold m n e levels count ws vs at r
-        unfolding SameTold named renumber words
-        same-more a l w o told r rest = shown alike r rest
-          where
-            kids : renumber m (insideWord (getD ws at 0) e) (told .0) ≡ renumber n (insideWord (getD ws at 0) e) (told .1)
-            kids = told .8
-
-            long : a ≡ at + 1 + length (words (told .1))
-            long =
-                told .9
-                ∙ ap (λ (k : ℕ). at + 1 + k)
-                (sym (length-renumber m (insideWord (getD ws at 0) e) (told .0)) ∙ ap (λ (x : Row). length (words x)) kids ∙ length-renumber n (insideWord (getD ws at 0) e) (told .1))
-
-            shown : Alike → (r : Passed) → SameTold m n e levels (count - 1) ws vs a r → SameTold m n e levels count ws vs at r
-            shown k (Done b) rest =
-                let below : Stands (levels - 1) (countOf (getD vs at 0)) vs (at + 1) (told .1) (told .3) = rw (k .counts) at (told .5) in
-                let beside : Stands levels (count - 1) ws (at + 1 + length (words (told .0))) (rest .0) (rest .2) = rw (told .9) at (rest .4) in
-                let beside-other : Stands levels (count - 1) vs (at + 1 + length (words (told .1))) (rest .1) (rest .3) = rw long at (rest .5) in
-                let named-kids : named m (inside (k .left .head) e) (told .0) ≡ true = rw (k .inner) at (told .6) in
-                let named-other : named n (inside (k .other .head) e) (told .1) ≡ true = rw (k .inner-other) at (told .7) in
-                let same-kids : renumber m (inside (k .left .head) e) (told .0) ≡ renumber n (inside (k .other .head) e) (told .1) = ap (λ (i : ℕ). renumber m i (told .0)) (sym (k .inner)) ∙ kids ∙ ap (λ (i : ℕ). renumber n i (told .1)) (k .inner-other) in (
-                  node (k .left .head) (told .0) (rest .0),
-                  node (k .other .head) (told .1) (rest .1),
-                  rest .2,
-                  rest .3,
-                  put-first levels count ws at z (k .left .head) (told .0) (rest .0) (told .2) (rest .2) (k .left .is) (k .left .low) l w (told .4) beside,
-                  put-first levels count vs at z (k .other .head) (told .1) (rest .1) (told .3) (rest .3) (k .other .is) (k .other .low) l o below beside-other,
-                  and-both _ _ (k .left .some-id) (and-both _ _ named-kids (rest .6)),
-                  and-both _ _ (k .other .some-id) (and-both _ _ named-other (rest .7)),
-                  rw (k .images, same-kids, rest .8),
-                  omega (arith, rest .9, told .9, length-append (words (told .0)) (words (rest .0))),
-                )
-            shown k Stuck rest = λ f g after beyond s t p q i. right-stuck k rest f g after beyond (common f g after beyond s t p q i)
-              where
-                right-stuck : Alike → SameTold m n e levels (count - 1) ws vs a Stuck → (f g : Row) (after beyond : List ℕ) → Common f g after beyond → ⊥
-                right-stuck k rest f g after beyond c =
-                    let x : c .left .children ≡ told .0 = same-row (levels - 1) (levels - 1) (countOf (getD ws at 0)) ws (at + 1) (c .left .children) (told .0) _ (told .2) (c .left .below) (told .4) in
-                    let y : c .other .children ≡ told .1 = same-row (levels - 1) (levels - 1) (countOf (getD vs at 0)) vs (at + 1) (c .other .children) (told .1) _ (told .3) (c .other .below) (rw (k .counts) at (told .5)) in
-                    rest (c .left .right) (c .other .right) after beyond
-                    (rw (told .9, ← x) (c .left .beside)) (rw (long, ← y) (c .other .beside))
-                    (c .named-left .1) (c .named-other .1) (c .beside)
-
-    -- the two words have no image, or not the same
-    pub same-unlike : sameImage (imageOf m e (headOf (getD ws at 0))) (imageOf n e (headOf (getD vs at 0))) ≡ false → SameTold m n e levels count ws vs at Stuck
-    unfolding sameImage
-    same-unlike q = go (imageOf m e (headOf (getD ws at 0))) (imageOf n e (headOf (getD vs at 0))) refl refl q
-      where
-        go : (i j : Image) → imageOf m e (headOf (getD ws at 0)) ≡ i → imageOf n e (headOf (getD vs at 0)) ≡ j → sameImage i j ≡ false → SameTold m n e levels count ws vs at Stuck
-        go None j x y q = same-no-image x
-        go (Word v) None x y q = same-no-image-other y
-        go (Word v) (Word u) x y q = same-differ v u x y (eqb-false v u q)
-
--- the one image of two words
-pub like : (i j : Image) → sameImage i j ≡ true → (v : ℕ) × (i ≡ Word v) × (j ≡ Word v)
-unfolding sameImage
-like None j q = never (cc)
-like (Word v) None q = never (cc)
-like (Word v) (Word u) q = (v, refl, ap Word (sym (eqb-true v u q)))

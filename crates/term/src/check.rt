@@ -15,7 +15,7 @@ pub const MOST_NESTING: usize = 64;
 pub const MOST_LEVELS: u32 = 64;
 
 // One level more than may be open: the level of a word that nests too deep.
-const OPEN_LEVELS: usize = 65;
+pub const OPEN_LEVELS: usize = 65;
 
 pub enum Checked {
     Good,

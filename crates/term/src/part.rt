@@ -10,7 +10,7 @@ use crate::image::renumber_row;
 use crate::lent::clear;
 use crate::list::good_list;
 use crate::renumber::Passed;
-use crate::same::same_row;
+use crate::same::left_open;
 use crate::word::count_of;
 
 // How writing ended: so many words were written, or why none were.
@@ -126,24 +126,5 @@ pub fn same_body(
     if !good_list(other_d, other_list) {
         return false;
     }
-    match same_row(
-        d,
-        list,
-        words,
-        other_d,
-        other_list,
-        other_words,
-        0,
-        MOST_LEVELS,
-        1,
-        0,
-    ) {
-        Passed::Done(n) => {
-            if MOST_WORDS < n {
-                return false;
-            }
-            true
-        }
-        Passed::Stuck => false,
-    }
+    left_open(words, d, list, other_words, other_d, other_list) == 0
 }

@@ -1,19 +1,22 @@
 -- What a walk over a row of trees in words tells, tree after tree, one call a level.
-use Prim.Native.Nat.{ℕ, zero, suc, _+_, _≤_}
+use Prim.Native.Nat.{ℕ, _+_, _-_, _≤_}
 use mathlib.Core.Path.{_≡_}
 use mathlib.Core.Bool.{Bool, true, false, _&&_}
 use mathlib.Core.List.{List, _++_}
 use mathlib.Core.Option.{Option, none, some}
-use lib.Dec.{leb, eqb}
-use lib.ListN.{length, drop}
+use lib.Dec.{leb, ltb, eqb}
+use lib.ListN.{length, drop, getD}
 use lib.Seq.{sets}
 use Rattle.term.specs.declared.image.Way.{Way}
 use Rattle.term.specs.declared.image.Way.the-variants.{ToBody, ToTerm}
 use Rattle.term.specs.declared.image.Image.{Image}
 use Rattle.term.specs.declared.image.Image.the-variants.{Word, None}
+use Rattle.term.specs.declared.same.Met.{Met}
+use Rattle.term.specs.declared.same.Met.the-variants.{Both, Neither, Apart}
 use Rattle.term.specs.declared.renumber.Passed.{Passed}
 use Rattle.term.specs.declared.renumber.Passed.the-variants.{Done, Stuck}
-use Rattle.term.specs.Word.{Head, pick, rank, termRank, kindOf, word}
+use Rattle.term.specs.Word.{Head, pick, rank, termRank, kindOf, identOf, headOf, word}
+use Rattle.term.specs.Check.{rankOr}
 use Rattle.term.specs.Row.{Row, width, words, ranks, nesting, Formed}
 use Rattle.term.specs.Renumber.{idBody, idTermWithin, renumberHead, renumber, namedHead, named}
 
@@ -33,6 +36,20 @@ sameImage None j = false
 sameImage (Word v) None = false
 sameImage (Word v) (Word u) = eqb v u
 
+-- a word is a variable i with e < i ≤ e+d
+unfoldable pub innerWord : ℕ → ℕ → ℕ → Bool
+innerWord d e w = eqb (rankOr 4 (headOf w)) 2 && (ltb e (identOf w) && leb (identOf w - e) d)
+
+-- what two lists have at the place j, where y is sought in the one and z in the other
+unfoldable pub meets : Bool → Bool → Met
+meets true true = Both
+meets true false = Apart
+meets false true = Apart
+meets false false = Neither
+
+unfoldable pub meeting : List ℕ → ℕ → List ℕ → ℕ → ℕ → Met
+meeting ys y zs z j = pick (ltb j (length ys) && ltb j (length zs)) (meets (eqb y (getD ys j 0)) (eqb z (getD zs j 0))) Apart
+
 -- the abstractions around the children of a word
 unfoldable pub insideWord : ℕ → ℕ → ℕ
 insideWord w e = pick (eqb (kindOf w) 1) (e + 1) e
@@ -51,12 +68,3 @@ RowTold m e levels count ws at out done (Done a) =
     (f : Row) × (after : List ℕ) × Stands levels count ws at f after × (named m e f ≡ true) × (a ≡ at + length (words f)) × (done ≡ sets out at (words (renumber m e f)))
 RowTold m e levels count ws at out done Stuck =
     (f : Row) (after : List ℕ) → Stands levels count ws at f after → named m e f ≡ false
-
--- two rows have the same images; Stuck where they have not
-unfoldable pub SameTold : (ℕ → ℕ → ℕ) → (ℕ → ℕ → ℕ) → ℕ → ℕ → ℕ → List ℕ → List ℕ → ℕ → Passed → Type 0
-SameTold m n e levels count ws vs at (Done a) =
-    (f g : Row) × (after : List ℕ) × (beyond : List ℕ) × Stands levels count ws at f after × Stands levels count vs at g beyond
-    × (named m e f ≡ true) × (named n e g ≡ true) × (renumber m e f ≡ renumber n e g) × (a ≡ at + length (words f))
-SameTold m n e levels count ws vs at Stuck =
-    (f g : Row) (after beyond : List ℕ) → Stands levels count ws at f after → Stands levels count vs at g beyond
-    → named m e f ≡ true → named n e g ≡ true → renumber m e f ≡ renumber n e g → ⊥
