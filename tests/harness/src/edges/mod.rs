@@ -2,6 +2,7 @@
 
 mod books;
 mod building;
+mod comparing;
 mod compiling;
 mod damage;
 mod listed;
@@ -118,6 +119,7 @@ pub fn all() -> Result<Vec<Edge>, String> {
         matching::edges(),
         building::edges(),
         renumbering::edges(),
+        comparing::edges(),
         compiling::edges(),
         walking::edges(),
         damage::edges(),

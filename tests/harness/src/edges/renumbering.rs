@@ -8,12 +8,12 @@ use super::{clear, done, edge, fits, flat, Edge, Told, BAD_TERM, DAMAGED, NONE_F
 use crate::case::Case;
 
 /// A book of one rule with one variable, whose right side is a leaf.
-fn one_rule(left: &str) -> Vec<u32> {
+pub fn one_rule(left: &str) -> Vec<u32> {
     book(&[(1, left, "s0.0")])
 }
 
 /// A term by the rule of a book, and by the tree of that book.
-fn both_ways(name: &str, book: &[u32], term: &str, room: usize, told: impl Fn() -> Told) -> Vec<Edge> {
+pub fn both_ways(name: &str, book: &[u32], term: &str, room: usize, told: impl Fn() -> Told) -> Vec<Edge> {
     let term = words(term);
     let tree = gen::compiled(book);
     let by_rule = Case::MatchRule { book: book.to_vec(), rule: 0, term: term.clone(), room };
@@ -21,7 +21,7 @@ fn both_ways(name: &str, book: &[u32], term: &str, room: usize, told: impl Fn() 
 }
 
 /// The body of a part where it has one.
-fn body(part: Option<&str>) -> Told {
+pub fn body(part: Option<&str>) -> Told {
     part.map_or_else(|| clear(NONE_FITS, 0), |part| fits(&[words(part)]))
 }
 
@@ -36,7 +36,7 @@ fn closed_for_none() -> Vec<Edge> {
 }
 
 /// The rule of the Leaf behind a test that says yes.
-const YES: u32 = 5;
+pub const YES: u32 = 5;
 
 /// A tree that goes down `s3.1` and d abstractions, and asks there whether the part is closed for a list.
 fn asks_closed(d: u32, list: &[u32]) -> Vec<u32> {
