@@ -13,7 +13,7 @@ use Rattle.compiler.specs.Compiled.{compileGives}
 use Rattle.walk.specs.ByTree.{matchTreeGives}
 use Rattle.steps.specs.Simplify.{simplifyGives}
 use Rattle.rosenduch.specs.Marked.{marked, AllAsMarked, MarkedExercises}
-use Rattle.rosenduch.specs.WrongPrograms.{rawWords, closedAgainstAll, dropsRow, passesEarlierRow, p1, p3, p6, p7, p10, firstTerm, twoRows, secondFits, exchanged}
+use Rattle.rosenduch.specs.WrongPrograms.{rawWords, closedAgainstAll, secondUncounted, dropsRow, passesEarlierRow, p1, p3, p6, p7, p10, inLoops, firstTerm, twoRows, secondFits, exchanged}
 use Rattle.term.specs.Word as term-word
 use Rattle.term.specs.Row as term-row
 use Rattle.term.specs.Check as term-check
@@ -73,8 +73,10 @@ pub matches-computed :
     × (matchRuleGives bookB 0 p10 1 .said .number ≡ 1)
     × (closedAgainstAll bookA 1 p3 1 .said .number ≡ 1)
     × (matchRuleGives bookA 1 p3 1 .said .number ≡ 0)
-unfolding term-word.kind term-word.rank term-word.count term-word.ident term-word.word term-word.InTable term-word.headWith term-word.headOf term-row.width term-row.words term-row.nesting term-row.ranks term-row.Formed term-row._⧺_ term-row.firsts term-row.others term-row.read term-check.mayStand term-check.settle term-check.scan term-check.check term-renumber.position term-renumber.Listed term-renumber.listed term-renumber.goodList term-renumber.idTerm term-renumber.idBody term-renumber.inside term-renumber.renumberHead term-renumber.renumber term-renumber.namedHead term-renumber.named term-renumber.toTerm term-renumber.closed term-renumber.toBody term-renumber.within term-renumber.idTermWithin term-renumber.idsWithin term-part.past term-part.partEnd term-part.part term-part.bodyOf term-part.hasBody term-part.sameWords term-part.sameBody term-part.written term-part.padded term-part.bodyAnswer term-part.bodyWords term-part.termBelow term-part.writeBelowGives term-checked.checkTermGives book-rule.idsOf book-rule.leftShape book-rule.rootSymbol book-rule.rightShape book-rule.counted book-rule.oneCount book-rule.allOccur book-rule.noOther book-rule.goodLeft book-rule.goodRight book-rule.goodRule book-book.ruleOf book-book.judge book-book.checkBook book-book.nthRule book-book.ruleAt book-accept.accept book-accept.checkBookGives book-marked.s book-marked.l book-marked.v book-marked.m book-marked.bookA book-marked.bookB fit-left.leftOf fit-left.wide fit-left.deep fit-left.occurs fit-left.GoodLeft fit-fit.build fit-fit.found fit-fit.bodyIn fit-fit.allSame fit-fit.matching fit-constraint.tree fit-constraint.childrenOf fit-constraint.under fit-constraint.treeAt fit-constraint.isHead fit-constraint.shapeFits fit-constraint.occurrences fit-constraint.closeds fit-constraint.firstOf fit-constraint.sames fit-constraint.constraints fit-constraint.bodyHere fit-constraint.bodyAt fit-constraint.holds fit-constraint.allHold fit-match.treeOf fit-match.leftIn fit-match.bodyList fit-match.lengthList fit-match.matchRule fit-match.matchAnswer fit-match.matchWords fit-match.matchLengths fit-match.matchRuleGives fit-lowest.lowest rosenduch-marked.marked rosenduch-marked.AllAsMarked rosenduch-wrongprograms.onlyRefuses rosenduch-wrongprograms.sameBody rosenduch-wrongprograms.foundBy rosenduch-wrongprograms.rawMatching rosenduch-wrongprograms.rawWords rosenduch-wrongprograms.idListed rosenduch-wrongprograms.bodyAgainstAll rosenduch-wrongprograms.matchingAgainstAll rosenduch-wrongprograms.closedAgainstAll rosenduch-wrongprograms.onlyRule0 rosenduch-wrongprograms.onlyNone rosenduch-wrongprograms.madeBy rosenduch-wrongprograms.compileBy rosenduch-wrongprograms.ownRows rosenduch-wrongprograms.ownCases rosenduch-wrongprograms.dropsRow rosenduch-wrongprograms.allVariable rosenduch-wrongprograms.passesEarlierRow rosenduch-wrongprograms.handsBack rosenduch-wrongprograms.oneStep rosenduch-wrongprograms.inventsCount rosenduch-wrongprograms.p1 rosenduch-wrongprograms.p3 rosenduch-wrongprograms.p6 rosenduch-wrongprograms.p7 rosenduch-wrongprograms.p10 rosenduch-wrongprograms.firstTerm rosenduch-wrongprograms.exchanged rosenduch-wrongprograms.twoRows rosenduch-wrongprograms.secondFits
-matches-computed = (refl, refl, refl, refl, refl, refl, refl, refl, refl)
+    × (secondUncounted bookB 0 inLoops 2 .said .number ≡ 1)
+    × (matchRuleGives bookB 0 inLoops 2 .said .number ≡ 0)
+unfolding term-word.kind term-word.rank term-word.count term-word.ident term-word.word term-word.InTable term-word.headWith term-word.headOf term-row.width term-row.words term-row.nesting term-row.ranks term-row.Formed term-row._⧺_ term-row.firsts term-row.others term-row.read term-check.mayStand term-check.settle term-check.scan term-check.check term-renumber.position term-renumber.Listed term-renumber.listed term-renumber.goodList term-renumber.idTerm term-renumber.idBody term-renumber.inside term-renumber.renumberHead term-renumber.renumber term-renumber.namedHead term-renumber.named term-renumber.toTerm term-renumber.closed term-renumber.toBody term-renumber.within term-renumber.idTermWithin term-renumber.idsWithin term-part.past term-part.partEnd term-part.part term-part.bodyOf term-part.hasBody term-part.sameWords term-part.sameBody term-part.written term-part.padded term-part.bodyAnswer term-part.bodyWords term-part.termBelow term-part.writeBelowGives term-checked.checkTermGives book-rule.idsOf book-rule.leftShape book-rule.rootSymbol book-rule.rightShape book-rule.counted book-rule.oneCount book-rule.allOccur book-rule.noOther book-rule.goodLeft book-rule.goodRight book-rule.goodRule book-book.ruleOf book-book.judge book-book.checkBook book-book.nthRule book-book.ruleAt book-accept.accept book-accept.checkBookGives book-marked.s book-marked.l book-marked.v book-marked.m book-marked.bookA book-marked.bookB fit-left.leftOf fit-left.wide fit-left.deep fit-left.occurs fit-left.GoodLeft fit-fit.build fit-fit.found fit-fit.bodyIn fit-fit.allSame fit-fit.matching fit-constraint.tree fit-constraint.childrenOf fit-constraint.under fit-constraint.treeAt fit-constraint.isHead fit-constraint.shapeFits fit-constraint.occurrences fit-constraint.closeds fit-constraint.firstOf fit-constraint.sames fit-constraint.constraints fit-constraint.bodyHere fit-constraint.bodyAt fit-constraint.holds fit-constraint.allHold fit-match.treeOf fit-match.leftIn fit-match.bodyList fit-match.lengthList fit-match.matchRule fit-match.matchAnswer fit-match.matchWords fit-match.matchLengths fit-match.matchRuleGives fit-lowest.lowest rosenduch-marked.marked rosenduch-marked.AllAsMarked rosenduch-wrongprograms.onlyRefuses rosenduch-wrongprograms.sameBody rosenduch-wrongprograms.foundBy rosenduch-wrongprograms.rawMatching rosenduch-wrongprograms.rawWords rosenduch-wrongprograms.idListed rosenduch-wrongprograms.bodyAgainstAll rosenduch-wrongprograms.matchingAgainstAll rosenduch-wrongprograms.closedAgainstAll rosenduch-wrongprograms.bodyUncounted rosenduch-wrongprograms.uncountedSame rosenduch-wrongprograms.matchingUncounted rosenduch-wrongprograms.secondUncounted rosenduch-wrongprograms.inLoops rosenduch-wrongprograms.onlyRule0 rosenduch-wrongprograms.onlyNone rosenduch-wrongprograms.madeBy rosenduch-wrongprograms.compileBy rosenduch-wrongprograms.ownRows rosenduch-wrongprograms.ownCases rosenduch-wrongprograms.dropsRow rosenduch-wrongprograms.allVariable rosenduch-wrongprograms.passesEarlierRow rosenduch-wrongprograms.handsBack rosenduch-wrongprograms.oneStep rosenduch-wrongprograms.inventsCount rosenduch-wrongprograms.p1 rosenduch-wrongprograms.p3 rosenduch-wrongprograms.p6 rosenduch-wrongprograms.p7 rosenduch-wrongprograms.p10 rosenduch-wrongprograms.firstTerm rosenduch-wrongprograms.exchanged rosenduch-wrongprograms.twoRows rosenduch-wrongprograms.secondFits
+matches-computed = (refl, refl, refl, refl, refl, refl, refl, refl, refl, refl, refl)
 
 -- ---- matching by the tree
 pub trees-computed :

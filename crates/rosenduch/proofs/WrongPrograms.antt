@@ -87,6 +87,7 @@ all-shut-out =
       raw-words-P7 = λ e. apart _ _ 1 0 (matches-computed .3) (matches-computed .4) (λ z. omega (arith, z)) (ap said-number e);
       raw-words-P10 = λ e. apart _ _ 0 1 (matches-computed .5) (matches-computed .6) (λ z. omega (arith, z)) (ap said-number e);
       closed-against-all = λ e. apart _ _ 1 0 (matches-computed .7) (matches-computed .8) (λ z. omega (arith, z)) (ap said-number e);
+      second-uncounted = λ e. apart _ _ 1 0 (matches-computed .9) (matches-computed .10) (λ z. omega (arith, z)) (ap said-number e);
       drops-row = wrong-tree dropsRow twoRows secondFits drops-row;
       passes-earlier-row = wrong-tree passesEarlierRow exchanged p6 passes-earlier-row;
     }

@@ -1,8 +1,9 @@
--- Document 01, "How promises are marked" and "What learners write": the wrong programs that it names, each as a function from inputs to all that
--- comes back, in one table under one claim: on the input of its row a program does not give what the definition gives. Each is wrong only as its name says.
+-- Document 01, "How promises are marked" and "What learners write": the wrong programs that it names, and one to which a single pass over two parts
+-- tempts. Each is a function from inputs to all that comes back, in one table under one claim: on the input of its row a program does not give what the
+-- definition gives. Each is wrong only as its name says.
 use Prim.Native.Nat.{ℕ, zero, suc, _-_}
 use mathlib.Core.Path.{_≡_}
-use mathlib.Core.Bool.{Bool, true, false}
+use mathlib.Core.Bool.{Bool, true, false, _&&_}
 use mathlib.Core.List.{List, [], _∷_}
 use mathlib.Core.Option.{Option, none, some}
 use lib.Dec.{leb, eqb}
@@ -13,10 +14,10 @@ use Rattle.term.specs.declared.answer.Answer.{Answer}
 use Rattle.term.specs.declared.answer.Answer.the-variants.{Done, NoFit, BadTerm, NoRule}
 use Rattle.term.specs.Answer.{Answered, answered}
 use Rattle.term.specs.Word.{Head, word, pick}
-use Rattle.term.specs.Row.{Row, nothing, node}
+use Rattle.term.specs.Row.{Row, nothing, node, words}
 use Rattle.term.specs.Check.{check, termLimits}
-use Rattle.term.specs.Renumber.{three, parameter, position, inside, named, toBody}
-use Rattle.term.specs.Part.{padded}
+use Rattle.term.specs.Renumber.{three, parameter, position, inside, idBody, renumber, named, toBody}
+use Rattle.term.specs.Part.{sameWords, padded}
 use Rattle.book.specs.declared.accept.Accepted.{Accepted}
 use Rattle.book.specs.declared.accept.Accepted.the-variants.{Sound, Refused}
 use Rattle.book.specs.Accept.{accept}
@@ -94,6 +95,28 @@ matchingAgainstAll left t = agreed (foundBy bodyAgainstAll 0 left t)
 
 unfoldable pub closedAgainstAll : (book : List ℕ) (number : ℕ) (term : List ℕ) (room : ℕ) → MatchRuleOutcome
 closedAgainstAll book number term room = matchedCame room (byBook matchingAgainstAll book number term (accept book))
+
+-- the second part's abstractions not counted: where a later occurrence is compared with the first, each of its ids is taken as if no abstraction of the
+-- part itself stood around it
+unfoldable pub bodyUncounted : ℕ → List ℕ → Row → Option Row
+bodyUncounted d ys t = some (renumber (λ e i. idBody d ys 0 i) 0 t)
+
+unfoldable pub uncountedSame : Found → List ℕ → Found → Found → Bool
+uncountedSame bodies met [] uncounted = true
+uncountedSame bodies met (p ∷ found) [] = true
+uncountedSame bodies met (p ∷ found) (q ∷ uncounted) =
+    pick (leb 1 (position (p .0) met)) (sameWords (words (bodyIn bodies (p .0))) (words (q .1))) true && uncountedSame bodies (p .0 ∷ met) found uncounted
+
+abbrev pub uncountedAgreed : Option Found → Option Found → Option (ℕ → Row)
+uncountedAgreed none uncounted = none
+uncountedAgreed (some bodies) none = none
+uncountedAgreed (some bodies) (some uncounted) = pick (uncountedSame bodies [] bodies uncounted) (some (bodyIn bodies)) none
+
+unfoldable pub matchingUncounted : Left → Row → Option (ℕ → Row)
+matchingUncounted left t = uncountedAgreed (found 0 left t) (foundBy bodyUncounted 0 left t)
+
+unfoldable pub secondUncounted : (book : List ℕ) (number : ℕ) (term : List ℕ) (room : ℕ) → MatchRuleOutcome
+secondUncounted book number term room = matchedCame room (byBook matchingUncounted book number term (accept book))
 
 -- ==== matching by the tree
 
@@ -207,6 +230,10 @@ p7 = s 6 2 ∷ l ∷ v 1 ∷ l ∷ l ∷ v 2 ∷ []
 unfoldable pub p10 : List ℕ
 p10 = s 6 2 ∷ l ∷ v 2 ∷ l ∷ l ∷ v 2 ∷ []
 
+-- P7 with a loop in each part that names its own stop
+unfoldable pub inLoops : List ℕ
+inLoops = s 6 2 ∷ l ∷ l ∷ v 1 ∷ l ∷ l ∷ l ∷ v 1 ∷ []
+
 unfoldable pub firstTerm : List ℕ
 firstTerm = s 2 2 ∷ s 3 1 ∷ l ∷ s 7 0 ∷ s 7 0 ∷ []
 
@@ -243,6 +270,8 @@ pub record AllShutOut : Type 0 where
   -- "Equality by raw words (wrong at P7, P10)."
   pub raw-words-P7 : rawWords bookB 0 p7 1 ≡ matchRuleGives bookB 0 p7 1 → ⊥
   pub raw-words-P10 : rawWords bookB 0 p10 1 ≡ matchRuleGives bookB 0 p10 1 → ⊥
+  -- the second part's abstractions not counted
+  pub second-uncounted : secondUncounted bookB 0 inLoops 2 ≡ matchRuleGives bookB 0 inLoops 2 → ⊥
   -- "Closedness against all variables (P3)."
   pub closed-against-all : closedAgainstAll bookA 1 p3 1 ≡ matchRuleGives bookA 1 p3 1 → ⊥
   -- "Dropping a row with a variable from the cases (a rule is lost)."
