@@ -239,13 +239,14 @@ module _ (d : ℕ) (ys ws : List ℕ) (c : ℕ) (zs vs : List ℕ) where
 
         pub entered : n < length left → n < length under
             → sameImage (imageOf (idBody d ys) around (headOf (getD ws at 0))) (imageOf (idBody c zs) around (headOf (getD vs at 0))) ≡ true
+            → (u : ℕ) → u ≡ countOf (getD ws at 0)
             → (x : ℕ) → x ≡ insideWord (getD ws at 0) around
-            → Rest (at + 1) (n + 1) (set (set left (n - 1) (getD left (n - 1) 0 - 1)) n (countOf (getD ws at 0))) (set under n x)
-        entered h l q x i =
+            → Rest (at + 1) (n + 1) (set (set left (n - 1) (getD left (n - 1) 0 - 1)) n u) (set under n x)
+        entered h l q u j x i =
             shown (like (imageOf (idBody d ys) around (headOf (getD ws at 0))) (imageOf (idBody c zs) around (headOf (getD vs at 0))) q)
           where
             shown : (v : ℕ) × (imageOf (idBody d ys) around (headOf (getD ws at 0)) ≡ Word v) × (imageOf (idBody c zs) around (headOf (getD vs at 0)) ≡ Word v)
-                → Rest (at + 1) (n + 1) (set (set left (n - 1) (getD left (n - 1) 0 - 1)) n (countOf (getD ws at 0))) (set under n x)
+                → Rest (at + 1) (n + 1) (set (set left (n - 1) (getD left (n - 1) 0 - 1)) n u) (set under n x)
             shown v =
                 let a = alike (idBody d ys) (idBody c zs) around (getD ws at 0) (getD vs at 0) (v .0) (imaged (idBody d ys) around (getD ws at 0) (v .0) (v .1)) (imaged (idBody c zs) around (getD vs at 0) (v .0) (v .2)) in
                 open-level
@@ -256,7 +257,8 @@ module _ (d : ℕ) (ys ws : List ℕ) (c : ℕ) (zs vs : List ℕ) where
                   v .2,
                   ← a .0,
                   ← a .1,
-                  push n left under (getD left (n - 1) 0 - 1) (countOf (getD ws at 0)) x z h l,
+                  push n left under (getD left (n - 1) 0 - 1) u x z h l,
+                  j,
                   i,
                   add-one at,
                 )

@@ -16,9 +16,9 @@ use crate::image::Image;
 use crate::image::Way;
 use crate::image::renumber_word;
 use crate::renumber::inside_word;
-use crate::word::COUNT;
-use crate::word::COUNTS;
 use crate::word::VARIABLE_RANK;
+use crate::word::count_of;
+use crate::word::id_of;
 use crate::word::table_rank;
 
 // A place of two lists, in each of which an id is sought: both have it there, neither has, or they part: one has it alone, or has ended.
@@ -51,7 +51,7 @@ fn is_inner(d: u32, e: u32, w: u32) -> bool
     if table_rank(w) != VARIABLE_RANK {
         return false;
     }
-    let i = w % COUNT;
+    let i = id_of(w);
     if i <= e {
         return false;
     }
@@ -125,14 +125,14 @@ pub fn left_open(words: &[u32], d: u32, list: &[u32], others: &[u32], c: u32, id
         let x = others[at];
         let e = under[depth - 1];
         left[depth - 1] = left[depth - 1] - 1;
-        left[depth] = w / COUNT % COUNTS;
+        left[depth] = count_of(w);
         under[depth] = inside_word(w, e);
         depth = depth + 1;
         at = at + 1;
         if both_inner(d, c, e, w, x) {
             let mut j = 0;
             loop {
-                match met_at(list, w % COUNT - e, ids, x % COUNT - e, j) {
+                match met_at(list, id_of(w) - e, ids, id_of(x) - e, j) {
                     Met::Neither => j = j + 1,
                     Met::Both => break,
                     Met::Apart => break 'pass,
