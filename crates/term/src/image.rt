@@ -138,9 +138,7 @@ pub fn renumber_row(
                 a = b;
                 left = left - 1;
             }
-            Passed::Stuck => {
-                return Passed::Stuck;
-            }
+            Passed::Stuck => return Passed::Stuck,
         }
     }
     Passed::Done(a)
