@@ -7,14 +7,14 @@ ghost use Rattle.compiler.specs.told.Tables.{Changed, isVariable, firstS
 use crate::table::CLOSED_MARKS;
 use crate::table::DEPTHS;
 use crate::table::FREE;
-use crate::table::RULES;
 use crate::table::SAME_MARKS;
-use crate::table::SIDE;
 use crate::table::SPOTS;
-use term::word::COUNT;
-use term::word::COUNTS;
-use term::word::KIND;
+use book::limits::MOST_RULES_LONG;
+use book::limits::MOST_SIDE;
 use term::word::PATTERN;
+use term::word::count_of;
+use term::word::id_of;
+use term::word::kind_of;
 
 // No constraint has this name.
 pub const NONE_LEFT: usize = 0;
@@ -24,10 +24,10 @@ pub fn is_variable(fixed: &[u32], x: u32, k: usize) -> bool
     requires { ⌜ (length (now fixed) ≡ 8256) × (k < 4096) ⌝ }
     ensures { λ b. ⌜ b ≡ isVariable (now (fixed .entry)) x k ⌝ }
 {
-    if fixed[k] / KIND != PATTERN {
+    if kind_of(fixed[k]) != PATTERN {
         return false;
     }
-    fixed[k] % COUNT == x
+    id_of(fixed[k]) == x
 }
 
 // The first spot of a rule with the variable of spot k.
@@ -35,8 +35,8 @@ pub fn first_spot(fixed: &[u32], k: usize) -> usize
     requires { ⌜ (length (now fixed) ≡ 8256) × (k < 4096) ⌝ }
     ensures { λ j. ⌜ j ≡ firstSpot (now (fixed .entry)) k ⌝ }
 {
-    let x = fixed[k] % COUNT;
-    let mut j = k / SIDE * SIDE;
+    let x = id_of(fixed[k]);
+    let mut j = k / MOST_SIDE * MOST_SIDE;
     while j < k {
         if is_variable(fixed, x, j) {
             return j;
@@ -51,10 +51,10 @@ fn is_closed(fixed: &[u32], k: usize) -> bool
     requires { ⌜ (length (now fixed) ≡ 8256) × (k < 4096) ⌝ }
     ensures { λ b. ⌜ b ≡ isClosed (now (fixed .entry)) k ⌝ }
 {
-    if fixed[k] / KIND != PATTERN {
+    if kind_of(fixed[k]) != PATTERN {
         return false;
     }
-    fixed[k] / COUNT % COUNTS != fixed[DEPTHS + k]
+    count_of(fixed[k]) != fixed[DEPTHS + k]
 }
 
 // Whether it has an equality constraint: it is not the first of its variable.
@@ -62,7 +62,7 @@ fn is_same(fixed: &[u32], k: usize) -> bool
     requires { ⌜ (length (now fixed) ≡ 8256) × (k < 4096) ⌝ }
     ensures { λ b. ⌜ b ≡ isSame (now (fixed .entry)) k ⌝ }
 {
-    if fixed[k] / KIND != PATTERN {
+    if kind_of(fixed[k]) != PATTERN {
         return false;
     }
     first_spot(fixed, k) != k
@@ -96,9 +96,9 @@ fn first_from(fixed: &[u32], marks: &[u32], from: usize, r: usize) -> usize
     ensures { λ id. ⌜ id ≡ firstFrom (now (fixed .entry)) (now (marks .entry)) from r ⌝ }
 {
     let mut o: usize = 0;
-    while o < SIDE {
-        if is_left(fixed, marks, from + r * SIDE + o) {
-            return from + r * SIDE + o;
+    while o < MOST_SIDE {
+        if is_left(fixed, marks, from + r * MOST_SIDE + o) {
+            return from + r * MOST_SIDE + o;
         }
         o += 1;
     }
@@ -122,7 +122,7 @@ fn in_list(fixed: &[u32], w: u32, k: usize) -> bool
     requires { ⌜ (length (now fixed) ≡ 8256) × (k < 4096) ⌝ }
     ensures { λ b. ⌜ b ≡ inList (now (fixed .entry)) w k ⌝ }
 {
-    let more = (fixed[k] / COUNT % COUNTS) as usize;
+    let more = count_of(fixed[k]) as usize;
     let mut j: usize = 0;
     while j < more {
         if fixed[k + 1 + j] == w {
@@ -138,7 +138,7 @@ fn among(fixed: &[u32], a: usize, b: usize) -> bool
     requires { ⌜ (length (now fixed) ≡ 8256) × (a < 4096) × (b < 4096) ⌝ }
     ensures { λ r. ⌜ r ≡ amongAt (now (fixed .entry)) a b ⌝ }
 {
-    let more = (fixed[a] / COUNT % COUNTS) as usize;
+    let more = count_of(fixed[a]) as usize;
     let mut j: usize = 0;
     while j < more {
         if in_list(fixed, fixed[a + 1 + j], b) {
@@ -155,8 +155,8 @@ fn same_list(fixed: &[u32], a: usize, b: usize) -> bool
     requires { ⌜ (length (now fixed) ≡ 8256) × (a < 4096) × (b < 4096) ⌝ }
     ensures { λ r. ⌜ r ≡ sameList (now (fixed .entry)) a b ⌝ }
 {
-    let more = (fixed[a] / COUNT % COUNTS) as usize;
-    if more != (fixed[b] / COUNT % COUNTS) as usize {
+    let more = count_of(fixed[a]) as usize;
+    if more != count_of(fixed[b]) as usize {
         return false;
     }
     let mut j: usize = 0;
@@ -239,8 +239,8 @@ fn row_has(fixed: &[u32], nums: &[u32], marks: &[u32], id: usize, r: usize) -> b
 {
     let from = kind_from(id);
     let mut o: usize = 0;
-    while o < SIDE {
-        if left_same(fixed, nums, marks, id, from + r * SIDE + o) {
+    while o < MOST_SIDE {
+        if left_same(fixed, nums, marks, id, from + r * MOST_SIDE + o) {
             return true;
         }
         o += 1;
@@ -279,7 +279,7 @@ pub fn strike(fixed: &[u32], nums: &[u32], marks: &mut [u32], id: usize, mark: u
     let from = kind_from(id);
     let mut i: usize = 0;
     while i < SPOTS {
-        marks[from + i] = strike_mark(fixed, nums, marks, id, i / SIDE, from + i, mark);
+        marks[from + i] = strike_mark(fixed, nums, marks, id, i / MOST_SIDE, from + i, mark);
         i += 1;
     }
 }
@@ -304,7 +304,7 @@ pub fn drop_having(fixed: &[u32], nums: &[u32], marks: &mut [u32], id: usize, ma
     ensures { λ _. ⌜ Changed (struckRows (rowHas (now (fixed .entry)) (now (nums .entry)) (now (marks .entry)) id) mark) (now (marks .entry)) (now (marks .exit)) ⌝ }
 {
     let mut r: usize = 0;
-    while r < RULES {
+    while r < MOST_RULES_LONG {
         marks[r] = having_mark(fixed, nums, marks, id, r, mark);
         r += 1;
     }

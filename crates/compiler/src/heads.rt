@@ -8,9 +8,9 @@ ghost use Rattle.compiler.specs.told.Tables.{Changed, firstAt, struckRow
 use crate::table::ENTERED;
 use crate::table::FREE;
 use crate::table::NO_HEAD;
-use crate::table::RULES;
-use crate::table::SIDE;
 use crate::table::SPOTS;
+use book::limits::MOST_RULES_LONG;
+use book::limits::MOST_SIDE;
 
 // The spot of a rule at the place with this number, SPOTS where it has none there.
 pub fn spot_at(nums: &[u32], r: usize, n: u32) -> usize
@@ -18,9 +18,9 @@ pub fn spot_at(nums: &[u32], r: usize, n: u32) -> usize
     ensures { λ k. ⌜ k ≡ spotAt (now (nums .entry)) r n ⌝ }
 {
     let mut o: usize = 0;
-    while o < SIDE {
-        if nums[r * SIDE + o] == n + 1 {
-            return r * SIDE + o;
+    while o < MOST_SIDE {
+        if nums[r * MOST_SIDE + o] == n + 1 {
+            return r * MOST_SIDE + o;
         }
         o += 1;
     }
@@ -82,8 +82,8 @@ pub fn lowest_open(fixed: &[u32], nums: &[u32], marks: &[u32], r: usize) -> u32
 {
     let mut best: u32 = 0;
     let mut o: usize = 0;
-    while o < SIDE {
-        best = lower_at(fixed, nums, marks, r * SIDE + o, best);
+    while o < MOST_SIDE {
+        best = lower_at(fixed, nums, marks, r * MOST_SIDE + o, best);
         o += 1;
     }
     best
@@ -137,7 +137,7 @@ pub fn count_heads(fixed: &[u32], nums: &[u32], marks: &[u32], n: u32) -> u32
 {
     let mut count: u32 = 0;
     let mut r: usize = 0;
-    while r < RULES {
+    while r < MOST_RULES_LONG {
         let w = new_head(fixed, nums, marks, r, n);
         r += 1;
         if w == NO_HEAD {
@@ -188,7 +188,7 @@ pub fn drop_others(fixed: &[u32], nums: &[u32], marks: &mut [u32], n: u32, w: u3
     ensures { λ _. ⌜ Changed (struckRows (hasOther (now (fixed .entry)) (now (nums .entry)) n w) mark) (now (marks .entry)) (now (marks .exit)) ⌝ }
 {
     let mut r: usize = 0;
-    while r < RULES {
+    while r < MOST_RULES_LONG {
         marks[r] = other_mark(fixed, nums, marks, r, n, w, mark);
         r += 1;
     }

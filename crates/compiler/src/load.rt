@@ -13,15 +13,15 @@ use crate::table::ABSENT_ROW;
 use crate::table::DEPTHS;
 use crate::table::FREE;
 use crate::table::NO_HEAD;
-use crate::table::RULES;
-use crate::table::SIDE;
 use crate::table::SPOTS;
 use crate::table::VARS;
 use book::book::Found;
 use book::book::find_rule;
+use book::limits::MOST_RULES_LONG;
+use book::limits::MOST_SIDE;
 use term::part::part_end;
 use term::word::ABSTRACTION;
-use term::word::KIND;
+use term::word::kind_of;
 
 // The numbers table has this at a spot of the root, and 0 where the place is not uncovered.
 const ROOT: u32 = 1;
@@ -31,7 +31,7 @@ fn reaches(left: &[u32], a: usize, o: usize) -> bool
     requires { ⌜ (a < o) × (o < length (now left)) ⌝ }
     ensures { λ b. ⌜ b ≡ reachesTo (now (left .entry)) o a ⌝ }
 {
-    if left[a] / KIND != ABSTRACTION {
+    if kind_of(left[a]) != ABSTRACTION {
         return false;
     }
     o - a < part_end(&left[a..])
@@ -81,7 +81,7 @@ fn fill_words(left: &[u32], fixed: &mut [u32], from: usize)
     ensures { λ _. ⌜ Changed (filled from (wordOr (now (left .entry)))) (now (fixed .entry)) (now (fixed .exit)) ⌝ }
 {
     let mut o: usize = 0;
-    while o < SIDE {
+    while o < MOST_SIDE {
         fixed[from + o] = word_or(left, o);
         o += 1;
     }
@@ -93,7 +93,7 @@ fn fill_depths(left: &[u32], fixed: &mut [u32], from: usize)
     ensures { λ _. ⌜ Changed (filled from (depthOr (now (left .entry)))) (now (fixed .entry)) (now (fixed .exit)) ⌝ }
 {
     let mut o: usize = 0;
-    while o < SIDE {
+    while o < MOST_SIDE {
         fixed[from + o] = depth_or(left, o);
         o += 1;
     }
@@ -104,8 +104,8 @@ fn load_row(left: &[u32], fixed: &mut [u32], r: usize, vars: u32)
     requires { ⌜ (length (now fixed) ≡ 8256) × (r < 64) ⌝ }
     ensures { λ _. ⌜ RowLoaded (now (left .entry)) vars r (now (fixed .entry)) (now (fixed .exit)) ⌝ }
 {
-    fill_words(left, fixed, r * SIDE);
-    fill_depths(left, fixed, DEPTHS + r * SIDE);
+    fill_words(left, fixed, r * MOST_SIDE);
+    fill_depths(left, fixed, DEPTHS + r * MOST_SIDE);
     fixed[VARS + r] = vars;
 }
 
@@ -127,7 +127,7 @@ fn load_rules(book: &[u32], fixed: &mut [u32])
     ensures { λ _. ⌜ RulesAt (now (book .entry)) (now (fixed .exit)) 64 ⌝ }
 {
     let mut r: usize = 0;
-    while r < RULES {
+    while r < MOST_RULES_LONG {
         load_rule(book, fixed, r);
         r += 1;
     }
@@ -136,7 +136,7 @@ fn load_rules(book: &[u32], fixed: &mut [u32])
 fn root_number(k: usize) -> u32
     ensures { λ x. ⌜ x ≡ rootNumber k ⌝ }
 {
-    if k % SIDE == 0 {
+    if k % MOST_SIDE == 0 {
         return ROOT;
     }
     0
@@ -170,7 +170,7 @@ fn mark_absent(book: &[u32], marks: &mut [u32])
     ensures { λ _. ⌜ Changed (absentMarked (now (book .entry))) (now (marks .entry)) (now (marks .exit)) ⌝ }
 {
     let mut r: usize = 0;
-    while r < RULES {
+    while r < MOST_RULES_LONG {
         marks[r] = row_mark(book, r);
         r += 1;
     }

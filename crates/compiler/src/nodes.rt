@@ -16,16 +16,15 @@ use crate::heads::new_head;
 use crate::numbers::number_rows;
 use crate::table::ENTERED;
 use crate::table::NO_HEAD;
-use crate::table::RULES;
 use crate::table::first_row;
 use crate::table::forget;
 use crate::table::unmark;
 use crate::words::put_front;
 use crate::words::put_leaf;
+use book::limits::MOST_RULES_LONG;
 use term::lent::put;
 use term::renumber::Passed;
-use term::word::COUNT;
-use term::word::COUNTS;
+use term::word::count_of;
 use tree::node::FAIL;
 use tree::node::SWITCH;
 
@@ -84,7 +83,7 @@ fn case_tree(
     drop_others(fixed, nums, marks, n, w, mark);
     number_rows(fixed, nums, marks, n, count);
     marks[ENTERED + n as usize] = mark;
-    let more = w / COUNT % COUNTS;
+    let more = count_of(w);
     let Passed::Done(next) = tree_of(fixed, nums, marks, out, limit, count + more, at) else {
         return Passed::Stuck;
     };
@@ -113,7 +112,7 @@ fn case_trees(
     let mut to = slot;
     let mut a = at;
     let mut r: usize = 0;
-    while r < RULES {
+    while r < MOST_RULES_LONG {
         let w = new_head(fixed, nums, marks, r, n);
         r += 1;
         if w == NO_HEAD {
@@ -144,8 +143,7 @@ fn switch_node(
     n: u32,
 ) -> Passed
     requires { ⌜ SwitchReady (now fixed) (now nums) (now marks) limit count at n ⌝ }
-    ensures { λ r. ⌜ ((book : List ℕ) → TreeTold book (now (fixed .entry)) (now (nums .entry)) (now (marks .entry)) limit count at (now (out .entry)) (now (out .exit)) r)
-        × TreeKept (now (nums .entry)) (now (marks .entry)) limit at (now (nums .exit)) (now (marks .exit)) r ⌝ }
+    ensures { λ r. ⌜ ((book : List ℕ) → TreeTold book (now (fixed .entry)) (now (nums .entry)) (now (marks .entry)) limit count at (now (out .entry)) (now (out .exit)) r) × TreeKept (now (nums .entry)) (now (marks .entry)) limit at (now (nums .exit)) (now (marks .exit)) r ⌝ }
 {
     let mark = at as u32 + OWN;
     let cases = count_heads(fixed, nums, marks, n);
@@ -193,7 +191,7 @@ pub fn tree_of(
         return Passed::Stuck;
     }
     let r = first_row(marks);
-    if r == RULES {
+    if r == MOST_RULES_LONG {
         put(out, at, FAIL);
         return Passed::Done(at + 1);
     }

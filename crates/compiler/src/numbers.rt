@@ -7,11 +7,10 @@ use crate::heads::head_at;
 use crate::heads::spot_at;
 use crate::table::FREE;
 use crate::table::NO_HEAD;
-use crate::table::RULES;
-use crate::table::SIDE;
+use book::limits::MOST_RULES_LONG;
+use book::limits::MOST_SIDE;
 use term::part::part_end;
-use term::word::COUNT;
-use term::word::COUNTS;
+use term::word::count_of;
 
 // Where the tree after the one at `child` begins, in a left side that ends at `to`.
 fn next_child(fixed: &[u32], child: usize, to: usize) -> usize
@@ -30,8 +29,8 @@ fn number_children(fixed: &[u32], nums: &mut [u32], k: usize, first: u32)
     requires { ⌜ (length (now fixed) ≡ 8256) × (length (now nums) ≡ 4096) × (k < 4096) × (first ≤ 4096) ⌝ }
     ensures { λ _. ⌜ now (nums .exit) ≡ spotNumbered (now (fixed .entry)) k first (now (nums .entry)) ⌝ }
 {
-    let to = k / SIDE * SIDE + SIDE;
-    let more = fixed[k] / COUNT % COUNTS;
+    let to = k / MOST_SIDE * MOST_SIDE + MOST_SIDE;
+    let more = count_of(fixed[k]);
     let mut child = k + 1;
     let mut j: u32 = 0;
     while j < more {
@@ -65,7 +64,7 @@ pub fn number_rows(fixed: &[u32], nums: &mut [u32], marks: &[u32], n: u32, first
     ensures { λ _. ⌜ now (nums .exit) ≡ rowsNumbered (now (fixed .entry)) (now (marks .entry)) n first 0 64 (now (nums .entry)) ⌝ }
 {
     let mut r: usize = 0;
-    while r < RULES {
+    while r < MOST_RULES_LONG {
         number_row(fixed, nums, marks, n, first, r);
         r += 1;
     }

@@ -1,14 +1,10 @@
-// The compiler's tables. A spot is a word of a left side: the spots of rule r are r * SIDE and the next. A mark that is not FREE says who set it.
+// The compiler's tables. A spot is a word of a left side: the spots of rule r are r * MOST_SIDE and the next. A mark that is not FREE says who set it.
 ghost use mathlib.Core.Path.{_≡_};
 ghost use lib.Dec.{eqb, ltb};
 ghost use lib.ListN.{length};
 ghost use Rattle.term.specs.Word.{pick};
 ghost use Rattle.compiler.specs.told.Tables.{Changed, unmarked, forgotten, firstRow};
-
-// A book has at most so many rules, and a left side so many words.
-pub const RULES: usize = 64;
-
-pub const SIDE: usize = 64;
+use book::limits::MOST_RULES_LONG;
 
 pub const SPOTS: usize = 4096;
 
@@ -76,17 +72,17 @@ pub fn forget(nums: &mut [u32], count: u32)
     }
 }
 
-// The first row that is not struck, RULES where there is none.
+// The first row that is not struck, MOST_RULES_LONG where there is none.
 pub fn first_row(marks: &[u32]) -> usize
     requires { ⌜ length (now marks) ≡ 12352 ⌝ }
     ensures { λ r. ⌜ r ≡ firstRow (now (marks .entry)) ⌝ }
 {
     let mut r: usize = 0;
-    while r < RULES {
+    while r < MOST_RULES_LONG {
         if marks[r] == FREE {
             return r;
         }
         r += 1;
     }
-    RULES
+    MOST_RULES_LONG
 }

@@ -9,11 +9,11 @@ use crate::constraints::first_spot;
 use crate::constraints::is_variable;
 use crate::table::CLOSED_MARKS;
 use crate::table::SAME_MARKS;
-use crate::table::SIDE;
 use crate::table::VARS;
+use book::limits::MOST_SIDE;
 use term::lent::put;
-use term::word::COUNT;
-use term::word::COUNTS;
+use term::word::count_of;
+use term::word::id_of;
 use tree::node::CLOSED;
 use tree::node::LEAF;
 use tree::node::SAME;
@@ -34,10 +34,10 @@ fn put_list(fixed: &[u32], out: &mut [u32], at: usize, k: usize) -> usize
     requires { ⌜ (length (now fixed) ≡ 8256) × (k < 4096) × (at ≤ 65536) ⌝ }
     ensures { λ r. ⌜ (now (out .exit) ≡ sets (now (out .entry)) at (idsAt (now (fixed .entry)) k)) × (r ≡ at + sizeAt (now (fixed .entry)) k) ⌝ }
 {
-    let more = (fixed[k] / COUNT % COUNTS) as usize;
+    let more = count_of(fixed[k]) as usize;
     let mut j: usize = 0;
     while j < more {
-        put(out, at + j, fixed[k + 1 + j] % COUNT);
+        put(out, at + j, id_of(fixed[k + 1 + j]));
         j += 1;
     }
     at + more
@@ -49,7 +49,7 @@ fn put_occurrence(fixed: &[u32], nums: &[u32], out: &mut [u32], at: usize, k: us
     ensures { λ r. ⌜ (now (out .exit) ≡ sets (now (out .entry)) at (occurrenceWords (now (fixed .entry)) (now (nums .entry)) k)) × (r ≡ at + 2 + sizeAt (now (fixed .entry)) k) ⌝ }
 {
     put(out, at, number_at(nums, k));
-    put(out, at + 1, fixed[k] / COUNT % COUNTS);
+    put(out, at + 1, count_of(fixed[k]));
     put_list(fixed, out, at + 2, k)
 }
 
@@ -59,13 +59,13 @@ fn variable_spot(fixed: &[u32], r: usize, x: u32) -> usize
     ensures { λ k. ⌜ k ≡ variableSpot (now (fixed .entry)) r x ⌝ }
 {
     let mut o: usize = 0;
-    while o < SIDE {
-        if is_variable(fixed, x, r * SIDE + o) {
-            return r * SIDE + o;
+    while o < MOST_SIDE {
+        if is_variable(fixed, x, r * MOST_SIDE + o) {
+            return r * MOST_SIDE + o;
         }
         o += 1;
     }
-    r * SIDE
+    r * MOST_SIDE
 }
 
 // Writes for each variable of row r its first occurrence; the offset after them.
@@ -110,7 +110,7 @@ pub fn put_front(fixed: &[u32], nums: &[u32], out: &mut [u32], at: usize, id: us
     put(out, at, SAME);
     put(out, at + 1, number_at(nums, f));
     put(out, at + 2, number_at(nums, k));
-    put(out, at + 3, fixed[f] / COUNT % COUNTS);
+    put(out, at + 3, count_of(fixed[f]));
     let a = put_list(fixed, out, at + 4, f);
     put_list(fixed, out, a, k)
 }

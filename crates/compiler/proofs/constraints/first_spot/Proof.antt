@@ -16,29 +16,29 @@ abbrev μ-loop : tie.MeasureT-loop
 μ-loop fixed k x j₀ j = k - j
 
 loop-holds : tie.Need-loop-holds Inv-loop μ-loop
-loop-holds c = search-start (variableOf (c .before .before .args .fixed .now) (c .before .before .args .k)) (c .before .before .args .k / 64 * 64) (c .before .before .args .k % 64)
+loop-holds c = search-start (variableOf (c .before .before .before .args .fixed .now) (c .before .before .before .args .k)) (c .before .before .before .args .k / 64 * 64) (c .before .before .before .args .k % 64)
 
 is-variable-requires : tie.Need-is-variable-requires Inv-loop μ-loop
 is-variable-requires c κs =
-    let start = c .before .before .before .before in
+    let start = c .before .before .before .before .before in
     (start .pre .0, omega (arith, start .pre .1))
 
 returns : tie.Need-returns Inv-loop μ-loop
 returns c =
-    let start = c .before .before .before .before .before .before in
-    let q = c .before .before .before .loop in first-spot-is (start .args .fixed .now) (start .args .k) (q .j) (search-found (variableOf (start .args .fixed .now) (start .args .k)) (start .args .k / 64 * 64) (start .args .k % 64) (q .j) (q .inv) (omega arith) (sym (c .before .is-variable .ensures) ∙ c .if1 .taken))
+    let start = c .before .before .before .before .before .before .before in
+    let q = c .before .before .before .loop in first-spot-is (start .args .fixed .now) (start .args .k) (q .j) (search-found (variableOf (start .args .fixed .now) (start .args .k)) (start .args .k / 64 * 64) (start .args .k % 64) (q .j) (q .inv) (omega arith) (sym (rw (c .before .before .before .before .id-of .ensures) at (c .before .is-variable .ensures)) ∙ c .if1 .taken))
 
 add-j : tie.Need-add-j Inv-loop μ-loop
-add-j c = omega (arith, c .before .before .before .before .before .before .pre .1)
+add-j c = omega (arith, c .before .before .before .before .before .before .before .pre .1)
 
 loop-again : tie.Need-loop-again Inv-loop μ-loop
 loop-again c =
-    let start = c .before .before .before .before .before .before in
-    let q = c .before .before .before .loop in search-next (variableOf (start .args .fixed .now) (start .args .k)) (start .args .k / 64 * 64) (start .args .k % 64) (q .j) (q .inv) (omega arith) (sym (c .before .is-variable .ensures) ∙ c .if1 .left)
+    let start = c .before .before .before .before .before .before .before in
+    let q = c .before .before .before .loop in search-next (variableOf (start .args .fixed .now) (start .args .k)) (start .args .k / 64 * 64) (start .args .k % 64) (q .j) (q .inv) (omega arith) (sym (rw (c .before .before .before .before .id-of .ensures) at (c .before .is-variable .ensures)) ∙ c .if1 .left)
 
 returns-2 : tie.Need-returns-2 Inv-loop μ-loop
 returns-2 c =
-    let start = c .before .before .before .before in
+    let start = c .before .before .before .before .before in
     let q = c .before .loop in
     let z : start .args .k / 64 * 64 + start .args .k % 64 ≡ start .args .k = omega arith in
     first-spot-is (start .args .fixed .now) (start .args .k) (start .args .k) (search-nowhere (variableOf (start .args .fixed .now) (start .args .k)) (start .args .k / 64 * 64) (start .args .k % 64) (q .j) (q .inv) (omega arith) ∙ z)
@@ -51,6 +51,7 @@ first-spot-spec =
     μ-loop
     (λ c. omega arith)
     (λ c. omega arith)
+    (λ c κs. search needs)
     (λ c. omega arith)
     loop-holds
     is-variable-requires

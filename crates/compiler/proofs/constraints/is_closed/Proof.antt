@@ -8,13 +8,13 @@ use Rattle.compiler.proofs.constraints.is_closed.Tie as tie
 
 returns : tie.Need-returns
 returns c =
-    let start = c .before .before in
-    closed-no (start .args .fixed .now) (start .args .k) (c .if1 .taken)
+    let start = c .before .before .before .before in
+    closed-no (start .args .fixed .now) (start .args .k) (λ e. c .if1 .taken (c .before .kind-of .ensures ∙ e))
 
 returns-2 : tie.Need-returns-2
 returns-2 c =
-    let start = c .before .before .before .before in
-    closed-is (start .args .fixed .now) (start .args .k) (c .before .before .if1 .left)
+    let start = c .before .before .before .before .before .before .before in
+    rw (c .before .count-of .ensures) (closed-is (start .args .fixed .now) (start .args .k) (sym (c .before .before .before .before .kind-of .ensures) ∙ c .before .before .before .if1 .left))
 
 pub is-closed-spec : {M : Type 1} → statement M
 is-closed-spec =
@@ -22,9 +22,11 @@ is-closed-spec =
     (tie.spec
     (λ c. search needs)
     (λ c. search needs)
+    (λ c κs. search needs)
     returns
     (λ c. search needs)
     (λ c. search needs)
+    (λ c κs. search needs)
     (λ c. search needs)
     (λ c. search needs)
     (λ c. search needs)

@@ -8,15 +8,23 @@ use Rattle.compiler.proofs.constraints.is_variable.Tie as tie
 
 returns : tie.Need-returns
 returns c =
-    let start = c .before .before in
-    variable-no (start .args .fixed .now) (start .args .x) (start .args .k) (c .if1 .taken)
+    let start = c .before .before .before .before in
+    variable-no (start .args .fixed .now) (start .args .x) (start .args .k) (λ e. c .if1 .taken (c .before .kind-of .ensures ∙ e))
 
 returns-2 : tie.Need-returns-2
 returns-2 c =
-    let start = c .before .before .before in
-    variable-is (start .args .fixed .now) (start .args .x) (start .args .k) (c .before .if1 .left)
+    let start = c .before .before .before .before .before .before in
+    rw (c .id-of .ensures) (variable-is (start .args .fixed .now) (start .args .x) (start .args .k) (sym (c .before .before .before .kind-of .ensures) ∙ c .before .before .if1 .left))
 
 pub is-variable-spec : {M : Type 1} → statement M
 is-variable-spec =
     tie.close
-    (tie.spec (λ c. search needs) (λ c. search needs) returns (λ c. search needs) (λ c. search needs) returns-2)
+    (tie.spec
+    (λ c. search needs)
+    (λ c. search needs)
+    (λ c κs. search needs)
+    returns
+    (λ c. search needs)
+    (λ c. search needs)
+    (λ c κs. search needs)
+    returns-2)

@@ -18,26 +18,26 @@ abbrev μ-loop : tie.MeasureT-loop
 
 returns : tie.Need-returns Inv-loop μ-loop
 returns c =
-    let start = c .before .before .before in
-    list-sizes (start .args .fixed .now) (start .args .a) (start .args .b) (c .if1 .taken)
+    let start = c .before .before .before .before .before .before in
+    list-sizes (start .args .fixed .now) (start .args .a) (start .args .b) (λ e. c .if1 .taken (c .before .before .before .count-of .ensures ∙ e ∙ sym (c .before .count-of2 .ensures)))
 
 loop-holds : tie.Need-loop-holds Inv-loop μ-loop
-loop-holds c = search-start (differAt (c .before .before .before .args .fixed .now) (c .before .before .before .args .a) (c .before .before .before .args .b)) 0 (sizeAt (c .before .before .before .args .fixed .now) (c .before .before .before .args .a))
+loop-holds c = search-start (differAt (c .before .before .before .before .before .before .args .fixed .now) (c .before .before .before .before .before .before .args .a) (c .before .before .before .before .before .before .args .b)) 0 (sizeAt (c .before .before .before .before .before .before .args .fixed .now) (c .before .before .before .before .before .before .args .a))
 
 returns-2 : tie.Need-returns-2 Inv-loop μ-loop
 returns-2 c =
-    let start = c .before .before .before .before .before .before .before .before in
-    let q = c .before .before .before .before .loop in list-differs (start .args .fixed .now) (start .args .a) (start .args .b) (q .j) (c .before .before .before .before .before .if1 .left) (q .inv) (omega arith) (differ-yes (start .args .fixed .now) (start .args .a) (start .args .b) (q .j) (c .if2 .taken))
+    let start = c .before .before .before .before .before .before .before .before .before .before .before in
+    let q = c .before .before .before .before .loop in list-differs (start .args .fixed .now) (start .args .a) (start .args .b) (q .j) (sym (c .before .before .before .before .before .before .before .before .count-of .ensures) ∙ c .before .before .before .before .before .if1 .left ∙ c .before .before .before .before .before .before .count-of2 .ensures) (q .inv) (omega (arith, c .before .before .before .before .before .before .before .before .count-of .ensures)) (differ-yes (start .args .fixed .now) (start .args .a) (start .args .b) (q .j) (c .if2 .taken))
 
 loop-again : tie.Need-loop-again Inv-loop μ-loop
 loop-again c =
-    let start = c .before .before .before .before .before .before .before .before in
-    let q = c .before .before .before .before .loop in search-next (differAt (start .args .fixed .now) (start .args .a) (start .args .b)) 0 (sizeAt (start .args .fixed .now) (start .args .a)) (q .j) (q .inv) (omega arith) (differ-no (start .args .fixed .now) (start .args .a) (start .args .b) (q .j) (c .if2 .left))
+    let start = c .before .before .before .before .before .before .before .before .before .before .before in
+    let q = c .before .before .before .before .loop in search-next (differAt (start .args .fixed .now) (start .args .a) (start .args .b)) 0 (sizeAt (start .args .fixed .now) (start .args .a)) (q .j) (q .inv) (omega (arith, c .before .before .before .before .before .before .before .before .count-of .ensures)) (differ-no (start .args .fixed .now) (start .args .a) (start .args .b) (q .j) (c .if2 .left))
 
 returns-3 : tie.Need-returns-3 Inv-loop μ-loop
 returns-3 c =
-    let start = c .before .before .before .before .before in
-    let q = c .before .loop in list-same (start .args .fixed .now) (start .args .a) (start .args .b) (q .j) (c .before .before .if1 .left) (q .inv) (omega arith)
+    let start = c .before .before .before .before .before .before .before .before in
+    let q = c .before .loop in list-same (start .args .fixed .now) (start .args .a) (start .args .b) (q .j) (sym (c .before .before .before .before .before .count-of .ensures) ∙ c .before .before .if1 .left ∙ c .before .before .before .count-of2 .ensures) (q .inv) (omega (arith, c .before .before .before .before .before .count-of .ensures))
 
 pub same-list-spec : {M : Type 1} → statement M
 same-list-spec =
@@ -47,22 +47,24 @@ same-list-spec =
     μ-loop
     (λ c. omega arith)
     (λ c. omega arith)
-    (λ c. omega arith)
-    (λ c. omega arith)
-    (λ c. omega arith)
-    (λ c. omega arith)
+    (λ c κs. search needs)
+    (λ c. omega (arith, c .count-of .ensures))
+    (λ c. omega (arith, c .count-of .ensures))
+    (λ c. omega (arith, c .before .count-of .ensures))
+    (λ c κs. search needs)
+    (λ c. omega (arith, c .before .before .count-of .ensures))
     returns
     loop-holds
-    (λ c. omega arith)
-    (λ c. omega arith)
-    (λ c. omega arith)
-    (λ c. omega arith)
-    (λ c. omega arith)
-    (λ c. omega arith)
-    (λ c. omega arith)
-    (λ c. omega arith)
+    (λ c. omega (arith, c .before .before .before .before .before .count-of .ensures))
+    (λ c. omega (arith, c .before .before .before .before .before .count-of .ensures))
+    (λ c. omega (arith, c .before .before .before .before .before .count-of .ensures))
+    (λ c. omega (arith, c .before .before .before .before .before .before .count-of .ensures))
+    (λ c. omega (arith, c .before .before .before .before .before .before .count-of .ensures))
+    (λ c. omega (arith, c .before .before .before .before .before .before .count-of .ensures))
+    (λ c. omega (arith, c .before .before .before .before .before .before .count-of .ensures))
+    (λ c. omega (arith, c .before .before .before .before .before .before .before .count-of .ensures))
     returns-2
-    (λ c. omega arith)
-    (λ c. omega arith)
+    (λ c. omega (arith, c .before .before .before .before .before .before .before .before .count-of .ensures))
+    (λ c. omega (arith, c .before .before .before .before .before .before .before .before .count-of .ensures))
     loop-again
     returns-3)

@@ -30,6 +30,7 @@ use Rattle.compiler.proofs.nodes.tree_of.Reads as tree-of
 use Rattle.compiler.proofs.nodes.tree_of.Kinds as tree-of-kinds
 use Rattle.compiler.proofs.nodes.+case_tree+case_trees+switch_node+test_node+tree_of.Lts-tree_of as tree-of-lts
 use Rattle.term.proofs.lent.put.Reads as put-reads
+use Rattle.term.proofs.word.count_of.Reads as count-of-reads
 use Rattle.compiler.proofs.constraints.drop_having.Reads as drop-having-reads
 use Rattle.compiler.proofs.constraints.first_constraint.Reads as first-constraint-reads
 use Rattle.compiler.proofs.constraints.strike.Reads as strike-reads
@@ -96,7 +97,7 @@ abbrev tree-of-below : ℕ → In 4 tree-of-kinds.ps
 tree-of-below t = and 4 tree-of-kinds.ps (falls 4 tree-of-kinds.ps _<_ μ-tree-of t) tree-of.Pre
 
 abbrev case-tree-calls : ℕ → case-tree-lts.Claims
-case-tree-calls t = (drop-others-reads.Asked, drop-others-reads.Learnt, number-rows-reads.Asked, number-rows-reads.Learnt, tree-of-below t, tree-of.Post, forget-reads.Asked, forget-reads.Learnt, unmark-reads.Asked, unmark-reads.Learnt)
+case-tree-calls t = (drop-others-reads.Asked, drop-others-reads.Learnt, number-rows-reads.Asked, number-rows-reads.Learnt, count-of-reads.Asked, count-of-reads.Learnt, tree-of-below t, tree-of.Post, forget-reads.Asked, forget-reads.Learnt, unmark-reads.Asked, unmark-reads.Learnt)
 
 abbrev case-trees-calls : ℕ → case-trees-lts.Claims
 case-trees-calls t = (new-head-reads.Asked, new-head-reads.Learnt, put-reads.Asked, put-reads.Learnt, case-tree-below t, case-tree.Post)
@@ -138,23 +139,23 @@ case-tree-slice-write-marks t c =
 
 case-tree-add-tree-of : (t : ℕ) → case-tree-lts.Need-add-tree-of (case-tree-calls t) (case-tree-at t) case-tree.Post
 case-tree-add-tree-of t c =
-    let start = c .before .before .before .before .before .before .before .before .before .before .before .before .before .before .before .before .before in
-    let s = start .args in let p = start .pre in omega (arith, case-places (s .fixed .now) (s .nums .now) (s .marks .now) (s .limit) (s .count) (s .at) (s .mark) (s .n) (s .w) (p .1 .0) (p .1 .1))
+    let start = c .before .before .before .before .before .before .before .before .before .before .before .before .before .before .before .before .before .before in
+    let s = start .args in let p = start .pre in omega (arith, c .before .before .before .count-of .ensures, case-places (s .fixed .now) (s .nums .now) (s .marks .now) (s .limit) (s .count) (s .at) (s .mark) (s .n) (s .w) (p .1 .0) (p .1 .1))
 
 case-tree-tree-of-requires : (t : ℕ) → case-tree-lts.Need-tree-of-requires (case-tree-calls t) (case-tree-at t) case-tree.Post
 case-tree-tree-of-requires t c κs =
-    let start = c .before .before .before .before .before .before .before .before .before .before .before .before .before .before .before .before .before in
-    let far = c .before .before .before .before .before .before .before .before .before .before in
-    let s = start .args in let p = start .pre in let x = case-needs (s .fixed .now) (s .nums .now) (s .marks .now) (s .limit) (s .count) (s .at) (s .mark) (s .n) (s .w) (p .1 .0) (p .1 .1) (s .out .now) _ (far .drop-others .kept .1 .1 .0) (far .drop-others .ensures) _ (c .before .before .before .before .before .number-rows .ensures) in (omega (arith, p .0, x .0), x .1)
+    let start = c .before .before .before .before .before .before .before .before .before .before .before .before .before .before .before .before .before .before in
+    let far = c .before .before .before .before .before .before .before .before .before .before .before in
+    let s = start .args in let p = start .pre in let x = case-needs (s .fixed .now) (s .nums .now) (s .marks .now) (s .limit) (s .count) (s .at) (s .mark) (s .n) (s .w) (p .1 .0) (p .1 .1) (s .out .now) _ (far .drop-others .kept .1 .1 .0) (far .drop-others .ensures) _ (c .before .before .before .before .before .before .number-rows .ensures) in (omega (arith, p .0, x .0), rw (← c .before .before .before .count-of .ensures) at (x .1))
 
 case-tree-same-length : (t : ℕ) → case-tree-lts.Need-same-length (case-tree-calls t) (case-tree-at t) case-tree.Post
 case-tree-same-length t c =
-    c .before .before .before .before .before .before .before .before .tree-of .kept .1 .0 ∙ c .before .before .before .before .before .before .before .before .before .before .before .before .before .before .number-rows .kept .1 .0
+    c .before .before .before .before .before .before .before .before .tree-of .kept .1 .0 ∙ c .before .before .before .before .before .before .before .before .before .before .before .before .before .before .before .number-rows .kept .1 .0
 
 case-tree-same-length-2 : (t : ℕ) → case-tree-lts.Need-same-length-2 (case-tree-calls t) (case-tree-at t) case-tree.Post
 case-tree-same-length-2 t c =
-    let start = c .before .before .before .before .before .before .before .before .before .before .before .before .before .before .before .before .before .before .before .before .before .before .before .before .before .before in
-    let far = c .before .before .before .before .before .before .before .before .before .before .before .before .before .before .before .before .before .before .before in
+    let start = c .before .before .before .before .before .before .before .before .before .before .before .before .before .before .before .before .before .before .before .before .before .before .before .before .before .before .before in
+    let far = c .before .before .before .before .before .before .before .before .before .before .before .before .before .before .before .before .before .before .before .before in
     let s = start .args in let p = start .pre in c .before .before .before .before .before .before .before .before .tree-of .kept .1 .1 .0 ∙ length-set (far .drop-others .last .1 .1 .0) (64 + s .n) (s .mark) ∙ far .drop-others .kept .1 .1 .0
 
 case-tree-same-length-3 : (t : ℕ) → case-tree-lts.Need-same-length-3 (case-tree-calls t) (case-tree-at t) case-tree.Post
@@ -163,18 +164,18 @@ case-tree-same-length-3 t c =
 
 case-tree-returns : (t : ℕ) → case-tree-lts.Need-returns (case-tree-calls t) (case-tree-at t) case-tree.Post
 case-tree-returns t c =
-    let start = c .before .before .before .before .before .before .before .before .before .before .before .before .before .before .before .before .before .before .before .before .before .before .before .before .before .before in
-    let far = c .before .before .before .before .before .before .before .before .before .before .before .before .before .before .before .before .before .before .before in
-    let s = start .args in let p = start .pre in (case-over (s .fixed .now) (s .nums .now) (s .marks .now) (s .limit) (s .count) (s .at) (s .mark) (s .n) (s .w) (p .1 .0) (p .1 .1) (s .out .now) _ (far .drop-others .kept .1 .1 .0) (far .drop-others .ensures) _ (c .before .before .before .before .before .before .before .before .before .before .before .before .before .before .number-rows .ensures) _ _ _ _ (c .before .before .before .before .before .before .before .before .tree-of .ensures) (c .enum-told .given .1), tt)
+    let start = c .before .before .before .before .before .before .before .before .before .before .before .before .before .before .before .before .before .before .before .before .before .before .before .before .before .before .before in
+    let far = c .before .before .before .before .before .before .before .before .before .before .before .before .before .before .before .before .before .before .before .before in
+    let s = start .args in let p = start .pre in (case-over (s .fixed .now) (s .nums .now) (s .marks .now) (s .limit) (s .count) (s .at) (s .mark) (s .n) (s .w) (p .1 .0) (p .1 .1) (s .out .now) _ (far .drop-others .kept .1 .1 .0) (far .drop-others .ensures) _ (c .before .before .before .before .before .before .before .before .before .before .before .before .before .before .before .number-rows .ensures) _ _ _ _ (rw (c .before .before .before .before .before .before .before .before .before .before .before .before .count-of .ensures) at (c .before .before .before .before .before .before .before .before .tree-of .ensures)) (c .enum-told .given .1), tt)
 
 case-tree-same-length-4 : (t : ℕ) → case-tree-lts.Need-same-length-4 (case-tree-calls t) (case-tree-at t) case-tree.Post
 case-tree-same-length-4 t c =
-    c .before .before .before .before .before .before .forget .kept .0 ∙ c .before .before .before .before .before .before .before .before .before .before .before .before .before .before .before .before .before .tree-of .kept .1 .0 ∙ c .before .before .before .before .before .before .before .before .before .before .before .before .before .before .before .before .before .before .before .before .before .before .before .number-rows .kept .1 .0
+    c .before .before .before .before .before .before .forget .kept .0 ∙ c .before .before .before .before .before .before .before .before .before .before .before .before .before .before .before .before .before .tree-of .kept .1 .0 ∙ c .before .before .before .before .before .before .before .before .before .before .before .before .before .before .before .before .before .before .before .before .before .before .before .before .number-rows .kept .1 .0
 
 case-tree-same-length-5 : (t : ℕ) → case-tree-lts.Need-same-length-5 (case-tree-calls t) (case-tree-at t) case-tree.Post
 case-tree-same-length-5 t c =
-    let start = c .before .before .before .before .before .before .before .before .before .before .before .before .before .before .before .before .before .before .before .before .before .before .before .before .before .before .before .before .before .before .before .before .before .before .before in
-    let far = c .before .before .before .before .before .before .before .before .before .before .before .before .before .before .before .before .before .before .before .before .before .before .before .before .before .before .before .before in
+    let start = c .before .before .before .before .before .before .before .before .before .before .before .before .before .before .before .before .before .before .before .before .before .before .before .before .before .before .before .before .before .before .before .before .before .before .before .before in
+    let far = c .before .before .before .before .before .before .before .before .before .before .before .before .before .before .before .before .before .before .before .before .before .before .before .before .before .before .before .before .before in
     let s = start .args in let p = start .pre in c .before .before .unmark .kept .0 ∙ c .before .before .before .before .before .before .before .before .before .before .before .before .before .before .before .before .before .tree-of .kept .1 .1 .0 ∙ length-set (far .drop-others .last .1 .1 .0) (64 + s .n) (s .mark) ∙ far .drop-others .kept .1 .1 .0
 
 case-tree-same-length-6 : (t : ℕ) → case-tree-lts.Need-same-length-6 (case-tree-calls t) (case-tree-at t) case-tree.Post
@@ -183,11 +184,11 @@ case-tree-same-length-6 t c =
 
 case-tree-returns-2 : (t : ℕ) → case-tree-lts.Need-returns-2 (case-tree-calls t) (case-tree-at t) case-tree.Post
 case-tree-returns-2 t c =
-    let start = c .before .before .before .before .before .before .before .before .before .before .before .before .before .before .before .before .before .before .before .before .before .before .before .before .before .before .before .before .before .before .before .before .before .before .before in
-    let far = c .before .before .before .before .before .before .before .before .before .before .before .before .before .before .before .before .before .before .before .before .before .before .before .before .before .before .before .before in
+    let start = c .before .before .before .before .before .before .before .before .before .before .before .before .before .before .before .before .before .before .before .before .before .before .before .before .before .before .before .before .before .before .before .before .before .before .before .before in
+    let far = c .before .before .before .before .before .before .before .before .before .before .before .before .before .before .before .before .before .before .before .before .before .before .before .before .before .before .before .before .before in
     let far2 = c .before .before .before .before .before .before in
     let far3 = c .before .before in
-    let s = start .args in let p = start .pre in case-done (s .fixed .now) (s .nums .now) (s .marks .now) (s .limit) (s .count) (s .at) (s .mark) (s .n) (s .w) (p .1 .0) (p .1 .1) (s .out .now) _ (far .drop-others .kept .1 .1 .0) (far .drop-others .ensures) _ (c .before .before .before .before .before .before .before .before .before .before .before .before .before .before .before .before .before .before .before .before .before .before .before .number-rows .ensures) _ _ _ _ (c .before .before .before .before .before .before .before .before .before .before .before .before .before .before .before .before .before .tree-of .ensures) _ (c .before .before .before .before .before .before .before .before .before .next .given .1) _ _ (far2 .forget .kept .0) (far2 .forget .ensures) (far3 .unmark .kept .0) (far3 .unmark .ensures)
+    let s = start .args in let p = start .pre in case-done (s .fixed .now) (s .nums .now) (s .marks .now) (s .limit) (s .count) (s .at) (s .mark) (s .n) (s .w) (p .1 .0) (p .1 .1) (s .out .now) _ (far .drop-others .kept .1 .1 .0) (far .drop-others .ensures) _ (c .before .before .before .before .before .before .before .before .before .before .before .before .before .before .before .before .before .before .before .before .before .before .before .before .number-rows .ensures) _ _ _ _ (rw (c .before .before .before .before .before .before .before .before .before .before .before .before .before .before .before .before .before .before .before .before .before .count-of .ensures) at (c .before .before .before .before .before .before .before .before .before .before .before .before .before .before .before .before .before .tree-of .ensures)) _ (c .before .before .before .before .before .before .before .before .before .next .given .1) _ _ (far2 .forget .kept .0) (far2 .forget .ensures) (far3 .unmark .kept .0) (far3 .unmark .ensures)
 
 case-trees-loop-holds : (t : ℕ) → case-trees-lts.Need-loop-holds (case-trees-calls t) (case-trees-at t) case-trees.Post Inv-loop μ-loop
 case-trees-loop-holds t c =
@@ -622,6 +623,7 @@ pub +case-tree+case-trees+switch-node+test-node+tree-of-spec : {M : Type 1} → 
     (λ c. omega arith)
     (case-tree-mul-marks t)
     (case-tree-slice-write-marks t)
+    (λ c κs. search needs)
     (case-tree-add-tree-of t)
     (case-tree-tree-of-requires t)
     (λ c. search needs)

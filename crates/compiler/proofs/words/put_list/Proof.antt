@@ -18,20 +18,20 @@ abbrev μ-loop : tie.MeasureT-loop
 
 loop-holds : tie.Need-loop-holds Inv-loop μ-loop
 loop-holds c =
-    let start = c .before .before .before in
+    let start = c .before .before .before .before in
     (refl, omega arith, (let z : start .args .at + 0 ≡ start .args .at = omega arith in let y : sizeAt (start .args .fixed .now) (start .args .k) - 0 ≡ sizeAt (start .args .fixed .now) (start .args .k) = omega arith in rw (z, y)))
 
 loop-again : tie.Need-loop-again Inv-loop μ-loop
 loop-again c =
-    let start = c .before .before .before .before .before .before .before .before .before .before in
+    let start = c .before .before .before .before .before .before .before .before .before .before .before .before in
     let far = c .before .before in
-    let q = c .before .before .before .before .before .before .loop in (far .put .kept .0 ∙ q .inv .0, omega arith, ids-next (start .args .fixed .now) (start .args .k) (start .args .at) (q .j) _ (q .out) _ (omega arith) (q .inv .2) _ (far .put .ensures))
+    let q = c .before .before .before .before .before .before .before .loop in (far .put .kept .0 ∙ q .inv .0, omega (arith, c .before .before .before .before .before .before .before .before .count-of .ensures), ids-next (start .args .fixed .now) (start .args .k) (start .args .at) (q .j) _ (q .out) _ (omega (arith, c .before .before .before .before .before .before .before .before .count-of .ensures)) (q .inv .2) _ (rw (c .before .before .before .id-of .ensures) at (far .put .ensures)))
 
 same-length : tie.Need-same-length Inv-loop μ-loop
 same-length c = c .before .loop .inv .0
 
 returns : tie.Need-returns Inv-loop μ-loop
-returns c = (ids-end _ _ _ _ _ _ _ (c .before .loop .inv .2) (omega arith), refl)
+returns c = (ids-end _ _ _ _ _ _ _ (c .before .loop .inv .2) (omega (arith, c .before .before .count-of .ensures)), omega (arith, c .before .before .count-of .ensures))
 
 pub put-list-spec : {M : Type 1} → statement M
 put-list-spec =
@@ -41,17 +41,19 @@ put-list-spec =
     μ-loop
     (λ c. omega arith)
     (λ c. omega arith)
-    (λ c. omega arith)
-    loop-holds
-    (λ c. omega arith)
-    (λ c. omega arith)
-    (λ c. omega arith)
-    (λ c. omega arith)
-    (λ c. omega arith)
     (λ c κs. search needs)
-    (λ c. omega arith)
-    (λ c. omega arith)
+    (λ c. omega (arith, c .count-of .ensures))
+    loop-holds
+    (λ c. omega (arith, c .before .before .before .count-of .ensures))
+    (λ c. omega (arith, c .before .before .before .count-of .ensures))
+    (λ c. omega (arith, c .before .before .before .count-of .ensures))
+    (λ c. omega (arith, c .before .before .before .count-of .ensures))
+    (λ c. omega (arith, c .before .before .before .before .count-of .ensures))
+    (λ c κs. search needs)
+    (λ c κs. search needs)
+    (λ c. omega (arith, c .before .before .before .before .before .before .before .before .count-of .ensures))
+    (λ c. omega (arith, c .before .before .before .before .before .before .before .before .count-of .ensures))
     loop-again
-    (λ c. omega arith)
+    (λ c. omega (arith, c .before .before .count-of .ensures))
     same-length
     returns)
