@@ -7,10 +7,10 @@ ghost use Rattle.fit.specs.told.BuildWalk.{RowBuilt};
 ghost use Rattle.steps.specs.Right.{single};
 ghost use Rattle.steps.specs.told.Under.{Around};
 ghost use Rattle.steps.specs.told.RightWalk.{RightWritten, nextTree, childAt, RightTold, PatternTold, VariableTold, BodyTold};
-use crate::under::MOST_OWN;
 use crate::under::Under;
 use crate::under::Within;
 use book::limits::MOST_VARS_LONG;
+use book::limits::SIDE_NESTING;
 use fit::build::start_of;
 use term::check::MOST_LEVELS;
 use term::check::MOST_WORDS;
@@ -23,6 +23,7 @@ use term::word::PATTERN;
 use term::word::VARIABLE;
 use term::word::count_of;
 use term::word::id_of;
+use term::word::kind_of;
 
 // No variable has an id from here on.
 const IDS: u32 = 65536;
@@ -119,7 +120,7 @@ fn body_tree(
     }
     let w = bodies[from];
     let next = from + 1;
-    if w / KIND == VARIABLE {
+    if kind_of(w) == VARIABLE {
         let Passed::Done(end) = body_variable(within, id_of(w), right, bodies, lengths, out, to)
         else {
             return Both::Stuck;
@@ -186,15 +187,16 @@ fn write_tree(
     if right.len() <= at {
         return Passed::Stuck;
     }
-    if MOST_OWN <= under.own {
+    if SIDE_NESTING <= under.own {
         return Passed::Stuck;
     }
     let w = right[at];
     let next = at + 1;
-    if w / KIND == VARIABLE {
+    let kind = kind_of(w);
+    if kind == VARIABLE {
         return write_variable(under.own_id(id_of(w)), under.levels, out, to);
     }
-    if w / KIND == PATTERN {
+    if kind == PATTERN {
         return write_pattern(under, w, right, next, bodies, lengths, out, to);
     }
     if under.levels == 0 {

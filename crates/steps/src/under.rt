@@ -3,20 +3,18 @@ ghost use mathlib.Core.Path.{_≡_};
 ghost use Prim.Native.Nat.{_+_, _-_, _≤_, _<_};
 ghost use lib.ListN.{getD};
 ghost use Rattle.steps.specs.told.Under.{Around, atRoot, deeperBy, insideRight, idsIn, insideBody};
+use book::limits::SIDE_NESTING;
 use term::renumber::NO_ID;
 use term::renumber::inside_word;
 use term::word::ABSTRACTION;
-use term::word::KIND;
-
-// A right side nests at most so deep.
-pub const MOST_OWN: usize = 16;
+use term::word::kind_of;
 
 // So many abstractions are around, and the right side has so many of them; for each of these, the outermost first, those around it.
 // What is written here may nest so many levels.
 pub struct Under {
     pub depth: u32,
     pub own: usize,
-    pub marks: [u32; MOST_OWN],
+    pub marks: [u32; SIDE_NESTING],
     pub levels: u32,
 }
 
@@ -28,7 +26,7 @@ impl Under {
         Under {
             depth: 0,
             own: 0,
-            marks: [0u32; MOST_OWN],
+            marks: [0u32; SIDE_NESTING],
             levels: levels,
         }
     }
@@ -48,7 +46,7 @@ impl Under {
         ensures { λ r. ⌜ r ≡ insideRight w self ⌝ }
     {
         self.levels = self.levels - 1;
-        if w / KIND != ABSTRACTION {
+        if kind_of(w) != ABSTRACTION {
             return self;
         }
         let depth = self.depth;

@@ -2,7 +2,7 @@
 -- a body the levels fall; the loops' invariants are that what is told of the trees left tells of the whole row.
 use borrow.Author.Needs.{needs}
 use native.Mathlib.Omega.{arith}
-use mathlib.Core.Path.{_≡_, refl, _∙_}
+use mathlib.Core.Path.{_≡_, refl, sym, _∙_}
 use mathlib.Core.List.{List}
 use Prim.Native.Nat.{ℕ, _<_, _≤_, _+_, _-_, _*_}
 use lib.ListN.{length, getD}
@@ -45,6 +45,7 @@ use Rattle.term.proofs.lent.put.Reads as put
 use Rattle.steps.proofs.under.Within.inside.Reads as inside-body
 use Rattle.term.proofs.word.count_of.Reads as count-of
 use Rattle.term.proofs.word.id_of.Reads as id-of
+use Rattle.term.proofs.word.kind_of.Reads as kind-of
 use Rattle.steps.proofs.right.+body_row+body_tree+body_variable+write_pattern+write_row+write_tree.{statement}
 use Rattle.steps.proofs.right.+body_row+body_tree+body_variable+write_pattern+write_row+write_tree.Tie.{close}
 
@@ -107,7 +108,7 @@ abbrev body-row-calls : ℕ → body-row-lts.Claims
 body-row-calls t = (body-tree-below t, body-tree.Post)
 
 abbrev body-tree-calls : ℕ → body-tree-lts.Claims
-body-tree-calls t = (id-of.Asked, id-of.Learnt, body-variable-below t, body-variable.Post, put.Asked, put.Learnt, inside-body.Asked, inside-body.Learnt, count-of.Asked, count-of.Learnt, body-row-below t, body-row.Post)
+body-tree-calls t = (kind-of.Asked, kind-of.Learnt, id-of.Asked, id-of.Learnt, body-variable-below t, body-variable.Post, put.Asked, put.Learnt, inside-body.Asked, inside-body.Learnt, count-of.Asked, count-of.Learnt, body-row-below t, body-row.Post)
 
 abbrev body-variable-calls : ℕ → body-variable-lts.Claims
 body-variable-calls t = (write-variable.Asked, write-variable.Learnt, child-at.Asked, child-at.Learnt, deeper.Asked, deeper.Learnt, write-tree-below t, write-tree.Post)
@@ -119,7 +120,7 @@ abbrev write-row-calls : ℕ → write-row-lts.Claims
 write-row-calls t = (write-tree-below t, write-tree.Post, next-tree.Asked, next-tree.Learnt)
 
 abbrev write-tree-calls : ℕ → write-tree-lts.Claims
-write-tree-calls t = (id-of.Asked, id-of.Learnt, own-id.Asked, own-id.Learnt, write-variable.Asked, write-variable.Learnt, write-pattern-below t, write-pattern.Post, put.Asked, put.Learnt, inside.Asked, inside.Learnt, count-of.Asked, count-of.Learnt, write-row-below t, write-row.Post)
+write-tree-calls t = (kind-of.Asked, kind-of.Learnt, id-of.Asked, id-of.Learnt, own-id.Asked, own-id.Learnt, write-variable.Asked, write-variable.Learnt, write-pattern-below t, write-pattern.Post, put.Asked, put.Learnt, inside.Asked, inside.Learnt, count-of.Asked, count-of.Learnt, write-row-below t, write-row.Post)
 
 abbrev body-row-Inv-loop : body-row-lts.InvT-loop
 body-row-Inv-loop within trees right bodies from lengths out₀ to a₀ c₀ more₀ out a c more =
@@ -153,23 +154,23 @@ body-row-returns : (t : ℕ) → body-row-lts.Need-returns (body-row-calls t) (b
 body-row-returns t c = let s = c .before .before .before .before .before .before .before .before .before .before .before .before .args in let q = c .before .before .before .before .before .before .before .loop in q .inv .1 _ _ (body-stuck (s .within .under) (s .within .e) (s .within .count) (s .within .under .levels) (q .more) (s .right .now) (s .within .at) (s .bodies .now) (q .a) (s .lengths .now) (q .out) (q .c) (c .before .before .before .before .before .before .loop-test .taken) _ (rw (c .enum-told .given .1) at (c .before .before .before .before .body-tree .ensures)))
 
 body-tree-body-variable-requires : (t : ℕ) → body-tree-lts.Need-body-variable-requires (body-tree-calls t) (body-tree-at t) body-tree.Post
-body-tree-body-variable-requires t c κs = let p = c .before .before .before .before .before .before .before .before .before .pre in (omega (arith, p .0), (p .1 .0, p .1 .1, p .1 .2, p .1 .3, omega (arith, c .before .id-of .ensures)))
+body-tree-body-variable-requires t c κs = let p = c .before .before .before .before .before .before .before .before .before .before .pre in (omega (arith, p .0), (p .1 .0, p .1 .1, p .1 .2, p .1 .3, omega (arith, c .before .id-of .ensures)))
 
 body-tree-returns-2 : (t : ℕ) → body-tree-lts.Need-returns-2 (body-tree-calls t) (body-tree-at t) body-tree.Post
-body-tree-returns-2 t c = let s = c .before .before .before .before .before .before .before .before .before .before .before .before .before .before .args in body-stands-stuck (s .within .under) (s .within .e) (s .within .count) (s .within .under .levels) (s .right .now) (s .within .at) (s .bodies .now) (s .from) (s .lengths .now) (s .out .now) (s .to) (c .before .before .before .before .before .before .before .if2 .taken) _ (rw (c .before .before .before .before .before .before .id-of .ensures, c .enum-told .given .1) at (c .before .before .before .before .body-variable .ensures))
+body-tree-returns-2 t c = let s = c .before .before .before .before .before .before .before .before .before .before .before .before .before .before .before .args in body-stands-stuck (s .within .under) (s .within .e) (s .within .count) (s .within .under .levels) (s .right .now) (s .within .at) (s .bodies .now) (s .from) (s .lengths .now) (s .out .now) (s .to) (sym (c .before .before .before .before .before .before .before .before .kind-of .ensures) ∙ c .before .before .before .before .before .before .before .if2 .taken) _ (rw (c .before .before .before .before .before .before .id-of .ensures, c .enum-told .given .1) at (c .before .before .before .before .body-variable .ensures))
 
 body-tree-returns-3 : (t : ℕ) → body-tree-lts.Need-returns-3 (body-tree-calls t) (body-tree-at t) body-tree.Post
-body-tree-returns-3 t c = let s = c .before .before .before .before .before .before .before .before .before .before .before .before .before .before .before .args in body-stands-for (s .within .under) (s .within .e) (s .within .count) (s .within .under .levels) (s .right .now) (s .within .at) (s .bodies .now) (s .from) (s .lengths .now) (s .out .now) (s .to) (c .before .before .before .before .before .before .before .before .if2 .taken) _ (c .before .end .given .0 .0) (rw (c .before .before .before .before .before .before .before .id-of .ensures, c .before .end .given .1) at (c .before .before .before .before .before .body-variable .ensures))
+body-tree-returns-3 t c = let s = c .before .before .before .before .before .before .before .before .before .before .before .before .before .before .before .before .args in body-stands-for (s .within .under) (s .within .e) (s .within .count) (s .within .under .levels) (s .right .now) (s .within .at) (s .bodies .now) (s .from) (s .lengths .now) (s .out .now) (s .to) (sym (c .before .before .before .before .before .before .before .before .before .kind-of .ensures) ∙ c .before .before .before .before .before .before .before .before .if2 .taken) _ (c .before .end .given .0 .0) (rw (c .before .before .before .before .before .before .before .id-of .ensures, c .before .end .given .1) at (c .before .before .before .before .before .body-variable .ensures))
 
 body-tree-returns-4 : (t : ℕ) → body-tree-lts.Need-returns-4 (body-tree-calls t) (body-tree-at t) body-tree.Post
-body-tree-returns-4 t c = let s = c .before .before .before .before .before .before .before .before .before .args in body-deep (s .within .under) (s .within .e) (s .within .count) (s .within .under .levels) (s .right .now) (s .within .at) (s .bodies .now) (s .from) (s .lengths .now) (s .out .now) (s .to) (c .before .before .if2 .left) _ (c .if3 .taken)
+body-tree-returns-4 t c = let s = c .before .before .before .before .before .before .before .before .before .before .args in body-deep (s .within .under) (s .within .e) (s .within .count) (s .within .under .levels) (s .right .now) (s .within .at) (s .bodies .now) (s .from) (s .lengths .now) (s .out .now) (s .to) (λ e. c .before .before .if2 .left (c .before .before .before .kind-of .ensures ∙ e)) _ (c .if3 .taken)
 
 body-tree-returns-5 : (t : ℕ) → body-tree-lts.Need-returns-5 (body-tree-calls t) (body-tree-at t) body-tree.Post
-body-tree-returns-5 t c = let s = c .before .before .before .before .before .before .before .before .before .before .args in body-full (s .within .under) (s .within .e) (s .within .count) (s .within .under .levels) (s .right .now) (s .within .at) (s .bodies .now) (s .from) (s .lengths .now) (s .out .now) (s .to) (c .before .before .before .if2 .left) _ (c .if4 .taken)
+body-tree-returns-5 t c = let s = c .before .before .before .before .before .before .before .before .before .before .before .args in body-full (s .within .under) (s .within .e) (s .within .count) (s .within .under .levels) (s .right .now) (s .within .at) (s .bodies .now) (s .from) (s .lengths .now) (s .out .now) (s .to) (λ e. c .before .before .before .if2 .left (c .before .before .before .before .kind-of .ensures ∙ e)) _ (c .if4 .taken)
 
 body-tree-body-row-requires : (t : ℕ) → body-tree-lts.Need-body-row-requires (body-tree-calls t) (body-tree-at t) body-tree.Post
 body-tree-body-row-requires t c κs =
-    let start = c .before .before .before .before .before .before .before .before .before .before .before .before .before .before .before .before .before in
+    let start = c .before .before .before .before .before .before .before .before .before .before .before .before .before .before .before .before .before .before in
     let far = c .before .before .before .before .before .before .before .before in
     let s = start .args in
     let p = start .pre in
@@ -179,7 +180,7 @@ body-tree-body-row-requires t c κs =
     (omega (arith, p .0, at, levels, far .if3 .left), (body-low (s .within) _ (getD (s .bodies .now) (s .from) 0) q (p .1 .0) (far .if3 .left), body-around (s .within) _ (getD (s .bodies .now) (s .from) 0) q (p .1 .1), omega (arith, at, p .1 .2), p .1 .3))
 
 body-tree-returns-6 : (t : ℕ) → body-tree-lts.Need-returns-6 (body-tree-calls t) (body-tree-at t) body-tree.Post
-body-tree-returns-6 t c = let s = c .before .before .before .before .before .before .before .before .before .before .before .before .before .before .before .before .before .before .before .before .args in body-inner (s .within .under) (s .within .e) (s .within .count) (s .within .under .levels) (s .right .now) (s .within .at) (s .bodies .now) (s .from) (s .lengths .now) (s .out .now) (s .to) (c .before .before .before .before .before .before .before .before .before .before .before .before .before .if2 .left) (omega (arith, c .before .before .before .before .before .before .before .before .before .before .before .if3 .left)) (c .before .before .before .before .before .before .before .before .before .before .if4 .left) _ _ (rw (c .before .before .before .before .before .inside .ensures, c .before .before .before .before .before .before .before .before .put .ensures, c .before .before .before .before .count-of .ensures) at (c .before .before .body-row .ensures))
+body-tree-returns-6 t c = let s = c .before .before .before .before .before .before .before .before .before .before .before .before .before .before .before .before .before .before .before .before .before .args in body-inner (s .within .under) (s .within .e) (s .within .count) (s .within .under .levels) (s .right .now) (s .within .at) (s .bodies .now) (s .from) (s .lengths .now) (s .out .now) (s .to) (λ e. c .before .before .before .before .before .before .before .before .before .before .before .before .before .if2 .left (c .before .before .before .before .before .before .before .before .before .before .before .before .before .before .kind-of .ensures ∙ e)) (omega (arith, c .before .before .before .before .before .before .before .before .before .before .before .if3 .left)) (c .before .before .before .before .before .before .before .before .before .before .if4 .left) _ _ (rw (c .before .before .before .before .before .inside .ensures, c .before .before .before .before .before .before .before .before .put .ensures, c .before .before .before .before .count-of .ensures) at (c .before .before .body-row .ensures))
 
 body-variable-returns : (t : ℕ) → body-variable-lts.Need-returns (body-variable-calls t) (body-variable-at t) body-variable.Post
 body-variable-returns t c = let s = c .before .before .before .before .before .before .before .before .before .before .args in variable-own (s .within .under) (s .within .e) (s .within .count) (s .within .under .levels) (s .i) (s .right .now) (s .within .at) (s .bodies .now) (s .lengths .now) (s .out .now) (s .to) _ _ (c .before .before .before .before .if1 .taken) (c .before .before .write-variable .ensures)
@@ -226,45 +227,45 @@ write-row-returns : (t : ℕ) → write-row-lts.Need-returns (write-row-calls t)
 write-row-returns t c = let s = c .before .before .before .before .before .before .before .before .before .before .before .before .args in let q = c .before .before .before .before .before .before .before .loop in q .inv .3 _ _ (right-stuck (s .under) (s .under .levels) (q .more) (s .right .now) (q .a) (s .bodies .now) (s .lengths .now) (q .out) (q .c) (c .before .before .before .before .before .before .loop-test .taken) _ (rw (c .enum-told .given .1) at (c .before .before .before .before .write-tree .ensures)))
 
 write-tree-returns-3 : (t : ℕ) → write-tree-lts.Need-returns-3 (write-tree-calls t) (write-tree-at t) write-tree.Post
-write-tree-returns-3 t c = let s = c .before .before .before .before .before .before .before .before .before .before .before .before .before .before .before .args in right-variable (s .under) (s .under .levels) (s .right .now) (s .at) (s .bodies .now) (s .lengths .now) (s .out .now) (s .to) (c .before .before .before .before .before .before .if3 .taken) _ (rw (c .before .before .before .before .before .id-of .ensures) at (c .before .before .before .before .own-id .ensures)) _ _ (c .before .before .write-variable .ensures)
+write-tree-returns-3 t c = let s = c .before .before .before .before .before .before .before .before .before .before .before .before .before .before .before .before .args in right-variable (s .under) (s .under .levels) (s .right .now) (s .at) (s .bodies .now) (s .lengths .now) (s .out .now) (s .to) (sym (c .before .before .before .before .before .before .before .kind-of .ensures) ∙ c .before .before .before .before .before .before .if3 .taken) _ (rw (c .before .before .before .before .before .id-of .ensures) at (c .before .before .before .before .own-id .ensures)) _ _ (c .before .before .write-variable .ensures)
 
 write-tree-write-pattern-requires : (t : ℕ) → write-tree-lts.Need-write-pattern-requires (write-tree-calls t) (write-tree-at t) write-tree.Post
 write-tree-write-pattern-requires t c κs =
-    let far = c .before .before .before .before .before .before in
-    let p = c .before .before .before .before .before .before .before .before .before .before .before .pre in (omega (arith, p .0, p .1 .0, far .if1 .left), (p .1 .0, p .1 .1, omega (arith, far .if1 .left), p .1 .2))
+    let far = c .before .before .before .before .before .before .before in
+    let p = c .before .before .before .before .before .before .before .before .before .before .before .before .pre in (omega (arith, p .0, p .1 .0, far .if1 .left), (p .1 .0, p .1 .1, omega (arith, far .if1 .left), p .1 .2))
 
 write-tree-returns-4 : (t : ℕ) → write-tree-lts.Need-returns-4 (write-tree-calls t) (write-tree-at t) write-tree.Post
-write-tree-returns-4 t c = let s = c .before .before .before .before .before .before .before .before .before .before .before .before .before .before .args in right-pattern (s .under) (s .under .levels) (s .right .now) (s .at) (s .bodies .now) (s .lengths .now) (s .out .now) (s .to) (c .before .before .before .before .if4 .taken) _ _ (c .before .before .write-pattern .ensures)
+write-tree-returns-4 t c = let s = c .before .before .before .before .before .before .before .before .before .before .before .before .before .before .before .args in right-pattern (s .under) (s .under .levels) (s .right .now) (s .at) (s .bodies .now) (s .lengths .now) (s .out .now) (s .to) (sym (c .before .before .before .before .before .before .kind-of .ensures) ∙ c .before .before .before .before .if4 .taken) _ _ (c .before .before .write-pattern .ensures)
 
 write-tree-returns-5 : (t : ℕ) → write-tree-lts.Need-returns-5 (write-tree-calls t) (write-tree-at t) write-tree.Post
 write-tree-returns-5 t c =
-    let start = c .before .before .before .before .before .before .before .before .before .before .before .before in
-    let s = start .args in right-deep (s .under) (s .under .levels) (s .right .now) (s .at) (s .bodies .now) (s .lengths .now) (s .out .now) (s .to) (start .pre .1 .1) (omega (arith, c .before .before .before .before .before .if2 .left)) (c .before .before .before .if3 .left) (c .before .before .if4 .left) _ (c .if5 .taken)
+    let start = c .before .before .before .before .before .before .before .before .before .before .before .before .before in
+    let s = start .args in right-deep (s .under) (s .under .levels) (s .right .now) (s .at) (s .bodies .now) (s .lengths .now) (s .out .now) (s .to) (start .pre .1 .1) (omega (arith, c .before .before .before .before .before .before .if2 .left)) (λ e. c .before .before .before .if3 .left (c .before .before .before .before .kind-of .ensures ∙ e)) (λ e. c .before .before .if4 .left (c .before .before .before .before .kind-of .ensures ∙ e)) _ (c .if5 .taken)
 
 write-tree-returns-6 : (t : ℕ) → write-tree-lts.Need-returns-6 (write-tree-calls t) (write-tree-at t) write-tree.Post
 write-tree-returns-6 t c =
-    let start = c .before .before .before .before .before .before .before .before .before .before .before .before .before in
-    let s = start .args in right-full (s .under) (s .under .levels) (s .right .now) (s .at) (s .bodies .now) (s .lengths .now) (s .out .now) (s .to) (start .pre .1 .1) (omega (arith, c .before .before .before .before .before .before .if2 .left)) (c .before .before .before .before .if3 .left) (c .before .before .before .if4 .left) _ (c .if6 .taken)
+    let start = c .before .before .before .before .before .before .before .before .before .before .before .before .before .before in
+    let s = start .args in right-full (s .under) (s .under .levels) (s .right .now) (s .at) (s .bodies .now) (s .lengths .now) (s .out .now) (s .to) (start .pre .1 .1) (omega (arith, c .before .before .before .before .before .before .before .if2 .left)) (λ e. c .before .before .before .before .if3 .left (c .before .before .before .before .before .kind-of .ensures ∙ e)) (λ e. c .before .before .before .if4 .left (c .before .before .before .before .before .kind-of .ensures ∙ e)) _ (c .if6 .taken)
 
 write-tree-inside-requires : (t : ℕ) → write-tree-lts.Need-inside-requires (write-tree-calls t) (write-tree-at t) write-tree.Post
 write-tree-inside-requires t c κs =
     let far = c .before .before .before .before .before in
-    let p = c .before .before .before .before .before .before .before .before .before .before .before .before .before .before .before .before .before .pre in (p .1 .1, omega (arith, c .before .before .before .before .before .before .before .before .before .before .if2 .left), omega (arith, p .1 .0, far .if5 .left), omega (arith, far .if5 .left))
+    let p = c .before .before .before .before .before .before .before .before .before .before .before .before .before .before .before .before .before .before .pre in (p .1 .1, omega (arith, c .before .before .before .before .before .before .before .before .before .before .before .if2 .left), omega (arith, p .1 .0, far .if5 .left), omega (arith, far .if5 .left))
 
 write-tree-write-row-requires : (t : ℕ) → write-tree-lts.Need-write-row-requires (write-tree-calls t) (write-tree-at t) write-tree.Post
 write-tree-write-row-requires t c κs =
-    let start = c .before .before .before .before .before .before .before .before .before .before .before .before .before .before .before .before .before .before .before .before in
-    let far = c .before .before .before .before .before .before .before .before .before .before .before .before .before .before .before in
+    let start = c .before .before .before .before .before .before .before .before .before .before .before .before .before .before .before .before .before .before .before .before .before in
+    let far = c .before .before .before .before .before .before .before .before .before .before .before .before .before .before .before .before in
     let far2 = c .before .before in
-    let s = start .args in let p = start .pre in (omega (arith, p .0, far .if1 .left), (inside-low (s .under) (p .1 .1) _ (getD (s .right .now) (s .at) 0) (far2 .inside .ensures) (p .1 .0) (c .before .before .before .before .before .before .before .before .if5 .left), inside-around (s .under) (p .1 .1) _ (getD (s .right .now) (s .at) 0) (far2 .inside .ensures) (omega (arith, c .before .before .before .before .before .before .before .before .before .before .before .before .before .if2 .left)), omega (arith, far .if1 .left), p .1 .2))
+    let s = start .args in let p = start .pre in (omega (arith, p .0, far .if1 .left), (inside-low (s .under) (p .1 .1) _ (getD (s .right .now) (s .at) 0) (far2 .inside .ensures) (p .1 .0) (c .before .before .before .before .before .before .before .before .if5 .left), inside-around (s .under) (p .1 .1) _ (getD (s .right .now) (s .at) 0) (far2 .inside .ensures) (omega (arith, c .before .before .before .before .before .before .before .before .before .before .before .before .before .before .if2 .left)), omega (arith, far .if1 .left), p .1 .2))
 
 write-tree-returns-7 : (t : ℕ) → write-tree-lts.Need-returns-7 (write-tree-calls t) (write-tree-at t) write-tree.Post
 write-tree-returns-7 t c =
-    let start = c .before .before .before .before .before .before .before .before .before .before .before .before .before .before .before .before .before .before .before .before .before .before .before in
-    let s = start .args in right-inner (s .under) (s .under .levels) (s .right .now) (s .at) (s .bodies .now) (s .lengths .now) (s .out .now) (s .to) (start .pre .1 .1) (omega (arith, c .before .before .before .before .before .before .before .before .before .before .before .before .before .before .before .before .if2 .left)) (c .before .before .before .before .before .before .before .before .before .before .before .before .before .before .if3 .left) (c .before .before .before .before .before .before .before .before .before .before .before .before .before .if4 .left) (omega (arith, c .before .before .before .before .before .before .before .before .before .before .before .if5 .left)) (c .before .before .before .before .before .before .before .before .before .before .if6 .left) _ _ (rw (c .before .before .before .before .before .inside .ensures, inside-levels (s .under) (getD (s .right .now) (s .at) 0), c .before .before .before .before .before .before .before .before .put .ensures, c .before .before .before .before .count-of .ensures) at (c .before .before .write-row .ensures))
+    let start = c .before .before .before .before .before .before .before .before .before .before .before .before .before .before .before .before .before .before .before .before .before .before .before .before in
+    let s = start .args in right-inner (s .under) (s .under .levels) (s .right .now) (s .at) (s .bodies .now) (s .lengths .now) (s .out .now) (s .to) (start .pre .1 .1) (omega (arith, c .before .before .before .before .before .before .before .before .before .before .before .before .before .before .before .before .before .if2 .left)) (λ e. c .before .before .before .before .before .before .before .before .before .before .before .before .before .before .if3 .left (c .before .before .before .before .before .before .before .before .before .before .before .before .before .before .before .kind-of .ensures ∙ e)) (λ e. c .before .before .before .before .before .before .before .before .before .before .before .before .before .if4 .left (c .before .before .before .before .before .before .before .before .before .before .before .before .before .before .before .kind-of .ensures ∙ e)) (omega (arith, c .before .before .before .before .before .before .before .before .before .before .before .if5 .left)) (c .before .before .before .before .before .before .before .before .before .before .if6 .left) _ _ (rw (c .before .before .before .before .before .inside .ensures, inside-levels (s .under) (getD (s .right .now) (s .at) 0), c .before .before .before .before .before .before .before .before .put .ensures, c .before .before .before .before .count-of .ensures) at (c .before .before .write-row .ensures))
 
 body-tree-inside-requires : (t : ℕ) → body-tree-lts.Need-inside-requires (body-tree-calls t) (body-tree-at t) body-tree.Post
-body-tree-inside-requires t c κs = (omega (arith, c .before .before .before .before .before .before .before .before .before .before .before .before .before .before .pre .1 .0), omega (arith, c .before .before .before .before .before .if3 .left))
+body-tree-inside-requires t c κs = (omega (arith, c .before .before .before .before .before .before .before .before .before .before .before .before .before .before .before .pre .1 .0), omega (arith, c .before .before .before .before .before .if3 .left))
 
 body-tree-same-length-3 : (t : ℕ) → body-tree-lts.Need-same-length-3 (body-tree-calls t) (body-tree-at t) body-tree.Post
 body-tree-same-length-3 t c = c .before .before .body-row .kept .1 .1 .1 .1 .1 .1 .0 ∙ c .before .before .before .before .before .before .before .before .put .kept .0
@@ -291,7 +292,7 @@ write-pattern-start-of-requires : (t : ℕ) → write-pattern-lts.Need-start-of-
 write-pattern-start-of-requires t c κs = (omega (arith, c .if1 .left), c .before .before .before .before .before .before .pre .1 .3)
 
 write-tree-own-id-requires : (t : ℕ) → write-tree-lts.Need-own-id-requires (write-tree-calls t) (write-tree-at t) write-tree.Post
-write-tree-own-id-requires t c κs = c .before .before .before .before .before .before .before .before .before .before .pre .1 .1
+write-tree-own-id-requires t c κs = c .before .before .before .before .before .before .before .before .before .before .before .pre .1 .1
 
 write-tree-same-length-3 : (t : ℕ) → write-tree-lts.Need-same-length-3 (write-tree-calls t) (write-tree-at t) write-tree.Post
 write-tree-same-length-3 t c = c .before .before .write-row .kept .1 .1 .1 .1 .1 .1 .0 ∙ c .before .before .before .before .before .before .before .before .put .kept .0
@@ -316,6 +317,7 @@ pub +body-row+body-tree+body-variable+write-pattern+write-row+write-tree-spec : 
     (λ c. omega arith)
     (λ c. omega arith)
     (λ c. omega arith)
+    (λ c κs. search needs)
     (λ c κs. search needs)
     (body-tree-body-variable-requires t)
     (λ c. search needs)
@@ -382,6 +384,7 @@ pub +body-row+body-tree+body-variable+write-pattern+write-row+write-tree-spec : 
     (λ c. omega arith)
     (λ c. omega arith)
     (λ c. omega arith)
+    (λ c κs. search needs)
     (λ c κs. search needs)
     (write-tree-own-id-requires t)
     (λ c κs. search needs)
