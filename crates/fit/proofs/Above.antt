@@ -3,10 +3,10 @@ use mathlib.Core.Path.{_≡_, refl, sym, ap, _∙_}
 use mathlib.Core.Bool.{Bool, true, false, _&&_, _||_}
 use mathlib.Core.List.{List, [], _∷_, _++_}
 use mathlib.Core.Option.{Option, none, some}
-use Prim.Native.Nat.{ℕ, suc, _+_, _*_, _≤_, _<_}
+use Prim.Native.Nat.{ℕ, suc, _+_, _≤_, _<_}
 use native.Mathlib.Omega.{arith}
 use lib.Dec.{eqb}
-use lib.ListN.{length, length-append}
+use lib.ListN.{length}
 use borrow.Author.Tests.{eqb-true, ne-eqb}
 use Rattle.term.specs.Word.{Head, symbol, abstraction, variable, pattern, word, rank, count, pick, InTable}
 use Rattle.term.specs.Row.{Row, nothing, node, width, Formed}
@@ -434,10 +434,6 @@ pub left-of-abstraction : (kids rest : Row) → leftOf (node abstraction kids re
 unfolding leftOf
 left-of-abstraction kids rest = refl
 
-pub left-of-variable : (i : ℕ) (kids rest : Row) → leftOf (node (variable i) kids rest) ≡ leftOf rest
-unfolding leftOf
-left-of-variable i kids rest = refl
-
 pub left-of-pattern : (x c : ℕ) (kids rest : Row) → leftOf (node (pattern x c) kids rest) ≡ hole x (idsOr (idsOf kids)) (leftOf rest)
 unfolding leftOf
 left-of-pattern x c kids rest = refl
@@ -445,30 +441,6 @@ left-of-pattern x c kids rest = refl
 pub left-in : (rule : Rule) (i : IsTree sideLimits (rule .left)) → leftIn rule ≡ leftOf (i .tree)
 unfolding leftIn
 left-in rule i = ap leftOf (tree-of sideLimits (rule .left) i)
-
--- ---- at most two constraints for each occurrence
-closeds-few : (os : List Occurrence) → length (closeds os) ≤ length os
-unfolding closeds
-closeds-few [] = omega arith
-closeds-few (o ∷ os) = go (eqb (length (o .list)) (o .depth)) (closeds-few os)
-  where
-    go : (b : Bool) → length (closeds os) ≤ length os → length (pick b (closeds os) (closedAt o ∷ closeds os)) ≤ suc (length os)
-    go true r = omega arith
-    go false r = omega arith
-
-sames-few : (es os : List Occurrence) → length (sames es os) ≤ length os
-unfolding sames
-sames-few es [] = omega arith
-sames-few es (o ∷ os) = go (firstOf (o .var) es) (sames-few (es ++ (o ∷ [])) os)
-  where
-    go : (r : Option Occurrence) → length (sames (es ++ (o ∷ [])) os) ≤ length os → length (sameThen r o (sames (es ++ (o ∷ [])) os)) ≤ suc (length os)
-    go none q = omega arith
-    go (some f) q = omega arith
-
-pub constraints-few : (left : Left) → length (constraints left) ≤ 2 * length (occurrences [] 0 0 left)
-unfolding constraints
-constraints-few left =
-    omega (arith, length-append (closeds (occurrences [] 0 0 left)) (sames [] (occurrences [] 0 0 left)), closeds-few (occurrences [] 0 0 left), sames-few [] (occurrences [] 0 0 left))
 
 -- ---- the lowest rule
 pub lowest-zero : (book : List ℕ) (number : ℕ) (t : Row) → lowest book number 0 t ≡ none

@@ -35,6 +35,7 @@ use Rattle.fit.proofs.Accepted.{tree-of}
 use Rattle.fit.proofs.Standing.{accepted-stands}
 use Rattle.fit.proofs.Lengths.{sum-lengths, given-good}
 use Rattle.fit.proofs.BuildRow.{wide-built, ranks-built, given-one}
+use Rattle.fit.proofs.Matching.{term-is-body}
 use Rattle.fit.proofs.Limits.{limits-within, within-limits}
 use Rattle.fit.proofs.Asked.{sound-good, build-refused, build-unknown, build-wrong-lengths, build-wrong-body, build-asked}
 use Rattle.fit.proofs.Outcomes.{BuildAnswered, build-came}
@@ -45,7 +46,7 @@ unfolding givenBodies
 given-body bodies lengths x c =
     let i = good-tree termLimits (omega arith) (wordsAt bodies lengths x) c in
     rw (tree-of termLimits (wordsAt bodies lengths x) i)
-    (record { one = i .one; formed = i .formed; few = i .few; low = i .low; short = rw (i .same) at (i .short) })
+    (term-is-body (wordsAt bodies lengths x) i)
 
 -- zeros after a refusal
 refused-is : (room : ℕ) (b : Built) (a : Answer) (done : List ℕ) → b ≡ refused a → done ≡ replicate room 0 → BuildAnswered room b a done
@@ -96,7 +97,7 @@ module _ (book : List ℕ) (number : ℕ) (rule : Rule) (accepted : accept book 
 
       pub few : ranks result ≤ 2
       unfolding leftIn
-      few = ranks-built (rule .vars) (givenBodies bodies lengths) (λ x h. given-body bodies lengths x (given .terms x h) .few) 0 (treeOf (rule .left)) (stands .good)
+      few = ranks-built (rule .vars) (givenBodies bodies lengths) (λ x h. given-body bodies lengths x (given .terms x h) .within .few) 0 (treeOf (rule .left)) (stands .good)
 
       -- what is within the limits is built
       pub within-is : Formed result → nesting result ≤ 64 → length (words result) ≤ 4096 → buildLeft book number bodies lengths ≡ built result
@@ -106,7 +107,7 @@ module _ (book : List ℕ) (number : ℕ) (rule : Rule) (accepted : accept book 
       pub term-within : withinLimits result ≡ true → Formed result × (nesting result ≤ 64) × (length (words result) ≤ 4096)
       unfolding leftIn
       term-within e =
-          limits-within (rule .vars) (givenBodies bodies lengths) (given-one (rule .vars) bodies lengths given) (λ x h. given-body bodies lengths x (given .terms x h) .formed)
+          limits-within (rule .vars) (givenBodies bodies lengths) (given-one (rule .vars) bodies lengths given) (λ x h. given-body bodies lengths x (given .terms x h) .within .formed)
           0 (treeOf (rule .left)) (stands .good) e
 
       pub over-is : (Formed result → nesting result ≤ 64 → length (words result) ≤ 4096 → ⊥) → buildLeft book number bodies lengths ≡ refused answer.Over

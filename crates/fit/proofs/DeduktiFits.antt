@@ -12,14 +12,14 @@ use Rattle.term.specs.Word.{Head, symbol, abstraction, variable, pattern, rank}
 use Rattle.term.specs.Row.{Row, nothing, node, width, words, _⧺_}
 use Rattle.term.specs.Check.{IsTerm, termLimits}
 use Rattle.term.specs.Renumber.{inside, toTerm, toBody}
-use Rattle.term.proofs.Laws.{never, body-term, term-body, term-keeps, width-nothing, width-node, rank-variable, rank-pattern, inside-symbol, inside-abstraction, formed-node}
+use Rattle.term.proofs.Laws.{never, body-term, term-body, term-keeps, width-nothing, width-node, rank-variable, rank-pattern, inside-symbol, inside-abstraction}
 use Rattle.book.specs.Book.{Rule, checkBook, ruleAt}
 use Rattle.fit.specs.Left.{Left, end, hole, part, occurs, GoodLeft}
-use Rattle.fit.specs.Fit.{build, IsBody, Fits, bodyB}
+use Rattle.fit.specs.Fit.{build, WithinTerm, IsBody, Fits, bodyB}
 use Rattle.fit.specs.Match.{treeOf, leftIn}
-use Rattle.fit.specs.Dedukti.{free, Within, Met, met, Filters, matchTuple, matchFv, matchSymb, matchAbst, bodyMet, EachMet, SameBody, OneBody, DeduktiMatches, Bodies, AsDedukti}
-use Rattle.fit.proofs.Basics.{Single, single, tree-before}
-use Rattle.fit.proofs.Matching.{WithinTerm, tree-within, below, beside, alone, part-body}
+use Rattle.fit.specs.Dedukti.{free, Within, Met, met, Filters, matchTuple, matchFv, matchSymb, matchAbst, bodyMet, EachMet, SameBody, DeduktiMatches, Bodies, AsDedukti}
+use Rattle.fit.proofs.Basics.{single, tree-before}
+use Rattle.fit.proofs.Matching.{term-is-body, kids-within, rest-within, first-within, part-body}
 use Rattle.fit.proofs.Words.{GoodRule, or-either, same-term}
 use Rattle.fit.proofs.Accepted.{tree-of, accepted-good}
 use Rattle.fit.proofs.Free.{body-free, free-body}
@@ -78,8 +78,8 @@ module _ (b : ℕ → Row) where
   built-met vars i d (hole x ys rest) g =
       let j = i x (g .0) in
       let s = single (toTerm d ys (b x)) (term-keeps d ys (b x) .wide ∙ j .one) in
-      let e = body-term d ys (g .1 .listed) (b x) (j .formed) in
-      tree-met d x ys rest (s .head) (s .children) (toTerm d ys (b x)) (build b d rest) (s .is) e (body-free d ys (toTerm d ys (b x)) (b x) e (j .formed)) (built-met vars i d rest (g .2))
+      let e = body-term d ys (g .1 .listed) (b x) (j .within .formed) in
+      tree-met d x ys rest (s .head) (s .children) (toTerm d ys (b x)) (build b d rest) (s .is) e (body-free d ys (toTerm d ys (b x)) (b x) e (j .within .formed)) (built-met vars i d rest (g .2))
   built-met vars i d (part h kids rest) g =
       part-met d h kids rest (build b (inside h d) kids) (build b d rest) (g .2) (built-met vars i (inside h d) kids (g .3)) (built-met vars i d rest (g .4))
 
@@ -110,28 +110,28 @@ unfolding occurs GoodLeft
 filters-bodies vars b d p t ms (matchTuple {d = e}) g w s z o = never (cc)
 filters-bodies vars b d p t ms (matchFv {d = e} {x = x} {ys = ys} {h = h} {kids = kids} {ts = ts} {ps = ps} {ms = ns} v r) g w s z o =
     or-either (eqb z x) (occurs z ps) o
-    (λ q. let y = eqb-true z x q in rw y (part-body e ys (node h kids nothing) (g .1) (width-node h kids nothing ∙ ap suc width-nothing) (alone h kids ts w) (b x) (s .0)))
-    (λ q. filters-bodies vars b e ps ts ns r (g .2) (beside h kids ts w) (s .1) z q)
+    (λ q. let y = eqb-true z x q in rw y (part-body e ys (node h kids nothing) (g .1) (width-node h kids nothing ∙ ap suc width-nothing) (first-within h kids ts w) (b x) (s .0)))
+    (λ q. filters-bodies vars b e ps ts ns r (g .2) (rest-within h kids ts w) (s .1) z q)
 filters-bodies vars b d p t ms (matchSymb {d = e} {f = f} {n = n} {qs = qs} {ps = ps} {us = us} {ts = ts} {ls = ls} {ms = ns} q r) g w s z o =
     or-either (occurs z qs) (occurs z ps) o
-    (λ y. filters-bodies vars b e qs us ls q (rw (inside-symbol f n e) at g .3) (below (symbol f n) us ts w) (met-left (BodyIs b) ls ns s) z y)
-    (λ y. filters-bodies vars b e ps ts ns r (g .4) (beside (symbol f n) us ts w) (met-right (BodyIs b) ls ns s) z y)
+    (λ y. filters-bodies vars b e qs us ls q (rw (inside-symbol f n e) at g .3) (kids-within (symbol f n) us ts w) (met-left (BodyIs b) ls ns s) z y)
+    (λ y. filters-bodies vars b e ps ts ns r (g .4) (rest-within (symbol f n) us ts w) (met-right (BodyIs b) ls ns s) z y)
 filters-bodies vars b d p t ms (matchAbst {d = e} {qs = qs} {ps = ps} {us = us} {ts = ts} {ls = ls} {ms = ns} q r) g w s z o =
     or-either (occurs z qs) (occurs z ps) o
-    (λ y. filters-bodies vars b (suc e) qs us ls q (rw (inside-abstraction e) at g .3) (below abstraction us ts w) (met-left (BodyIs b) ls ns s) z y)
-    (λ y. filters-bodies vars b e ps ts ns r (g .4) (beside abstraction us ts w) (met-right (BodyIs b) ls ns s) z y)
+    (λ y. filters-bodies vars b (suc e) qs us ls q (rw (inside-abstraction e) at g .3) (kids-within abstraction us ts w) (met-left (BodyIs b) ls ns s) z y)
+    (λ y. filters-bodies vars b e ps ts ns r (g .4) (rest-within abstraction us ts w) (met-right (BodyIs b) ls ns s) z y)
 
 -- ---- where the rules hold, each part met has a body
 filters-closed : (vars d : ℕ) (p : Left) (t : Row) (ms : List Met) → Filters d p t ms → GoodLeft vars d p → WithinTerm t → EachMet HasBody ms
 unfolding GoodLeft
 filters-closed vars d p t ms (matchTuple {d = e}) g w = tt
 filters-closed vars d p t ms (matchFv {d = e} {x = x} {ys = ys} {h = h} {kids = kids} {ts = ts} {ps = ps} {ms = ns} v r) g w =
-    let a = alone h kids ts w in
-    (free-body e ys (g .1) (node h kids nothing) (a .formed) (a .low) v, filters-closed vars e ps ts ns r (g .2) (beside h kids ts w))
+    let a = first-within h kids ts w in
+    (free-body e ys (g .1) (node h kids nothing) (a .formed) (a .low) v, filters-closed vars e ps ts ns r (g .2) (rest-within h kids ts w))
 filters-closed vars d p t ms (matchSymb {d = e} {f = f} {n = n} {qs = qs} {ps = ps} {us = us} {ts = ts} {ls = ls} {ms = ns} q r) g w =
-    met-join HasBody ls ns (filters-closed vars e qs us ls q (rw (inside-symbol f n e) at g .3) (below (symbol f n) us ts w)) (filters-closed vars e ps ts ns r (g .4) (beside (symbol f n) us ts w))
+    met-join HasBody ls ns (filters-closed vars e qs us ls q (rw (inside-symbol f n e) at g .3) (kids-within (symbol f n) us ts w)) (filters-closed vars e ps ts ns r (g .4) (rest-within (symbol f n) us ts w))
 filters-closed vars d p t ms (matchAbst {d = e} {qs = qs} {ps = ps} {us = us} {ts = ts} {ls = ls} {ms = ns} q r) g w =
-    met-join HasBody ls ns (filters-closed vars (suc e) qs us ls q (rw (inside-abstraction e) at g .3) (below abstraction us ts w)) (filters-closed vars e ps ts ns r (g .4) (beside abstraction us ts w))
+    met-join HasBody ls ns (filters-closed vars (suc e) qs us ls q (rw (inside-abstraction e) at g .3) (kids-within abstraction us ts w)) (filters-closed vars e ps ts ns r (g .4) (rest-within abstraction us ts w))
 
 -- ---- the body of a variable is that of its first occurrence
 abbrev orNothing : Option Row → Row
@@ -196,13 +196,12 @@ module _ (vars : ℕ) (left : Left) (rule : GoodRule vars left) (t : Row) (w : W
 
 record TermTree (ws : List ℕ) (t : Row) : Type 0 where
   same : words t ≡ ws
-  wide : width t ≡ 1
-  within : WithinTerm t
+  body : IsBody t
 
 term-tree : (ws : List ℕ) → IsTerm ws → TermTree ws (treeOf ws)
 term-tree ws i =
     rw (tree-of termLimits ws i)
-    (record { same = sym (i .same); wide = i .one; within = tree-within ws i })
+    (record { same = sym (i .same); body = term-is-body ws i })
 
 pub as-dedukti : (book : List ℕ) → checkBook book ≡ Good → (number : ℕ) (rule : Rule) → ruleAt book number ≡ some rule → (term : List ℕ) → IsTerm term
     → AsDedukti (rule .vars) (leftIn rule) term
@@ -212,6 +211,6 @@ as-dedukti book accepted number rule e term i =
     shown : GoodRule (rule .vars) (leftIn rule) → TermTree term (treeOf term) → AsDedukti (rule .vars) (leftIn rule) term
     shown r k =
         record {
-          matches = λ b f. tree-matches (rule .vars) (leftIn rule) r (treeOf term) (k .within) (k .wide) b (rw (k .same) f);
-          fits = λ m. rw (k .same) at (tree-fits (rule .vars) (leftIn rule) r (treeOf term) (k .within) (k .wide) m);
+          matches = λ b f. tree-matches (rule .vars) (leftIn rule) r (treeOf term) (k .body .within) (k .body .one) b (rw (k .same) f);
+          fits = λ m. rw (k .same) at (tree-fits (rule .vars) (leftIn rule) r (treeOf term) (k .body .within) (k .body .one) m);
         }

@@ -1,17 +1,15 @@
 -- Matching a left side that was built finds its bodies, and what is found builds the term.
-use mathlib.Core.Path.{_≡_, refl, sym, ap, ap₂, _∙_}
-use mathlib.Core.Bool.{Bool, true, false, _&&_}
+use mathlib.Core.Path.{_≡_, refl, _∙_}
+use mathlib.Core.Bool.{Bool, true, false}
 use mathlib.Core.List.{List, [], _∷_, _++_}
 use mathlib.Core.Option.{Option, none, some}
-use Prim.Native.Nat.{ℕ, zero, suc, _+_, _≤_, _<_, max}
-use native.Mathlib.Omega.{arith}
+use Prim.Native.Nat.{ℕ, _+_, _<_}
 use lib.Dec.{eqb}
-use lib.ListN.{length}
-use borrow.Author.Tests.{eqb-true, eqb-false, eq-eqb, ne-eqb}
-use Rattle.term.specs.Word.{Head, word, pick}
-use Rattle.term.specs.Row.{Row, nothing, node, width, words, ranks, nesting, Formed, _⧺_}
-use Rattle.term.specs.Renumber.{GoodList, inside, toTerm, toBody}
-use Rattle.term.proofs.Laws.{never, body-term, term-body, term-keeps, formed-node}
+use borrow.Author.Tests.{eqb-true, eq-eqb}
+use Rattle.term.specs.Word.{Head, word}
+use Rattle.term.specs.Row.{Row, nothing, node, Formed, _⧺_}
+use Rattle.term.specs.Renumber.{inside, toTerm, toBody}
+use Rattle.term.proofs.Laws.{body-term, term-body, term-keeps, formed-node}
 use Rattle.fit.specs.Left.{Left, end, hole, part, GoodLeft}
 use Rattle.fit.specs.Fit.{build, IsBody, Found, bodyThen, bothFound, onlyIf, found}
 use Rattle.fit.proofs.Basics.{single, Single, tree-before, same-word}
@@ -33,7 +31,7 @@ found-build vars b i d end g = refl
 found-build vars b i d (hole x ys rest) g =
     let j = i x (g .0) in
     found-tree d x ys rest (toTerm d ys (b x)) (build b d rest) (single (toTerm d ys (b x)) (term-keeps d ys (b x) .wide ∙ j .one))
-    ∙ rw (body-term d ys (g .1 .listed) (b x) (j .formed), found-build vars b i d rest (g .2))
+    ∙ rw (body-term d ys (g .1 .listed) (b x) (j .within .formed), found-build vars b i d rest (g .2))
 found-build vars b i d (part h kids rest) g =
     rw (eq-eqb (word h) (word h) refl, found-build vars b i (inside h d) kids (g .3), found-build vars b i d rest (g .4))
 

@@ -1,7 +1,7 @@
 -- What a crate above may cite of this one, and nothing else.
 
--- A term's tree, and what is asked of a rule's left side.
-pub use Rattle.fit.proofs.Matching.{WithinTerm, body-within, within-body, tree-within}
+-- A term, its rows and its parts, and a part's body; what is asked of a rule's left side.
+pub use Rattle.fit.proofs.Matching.{tree-within, term-is-body, body-is-term, kids-within, rest-within, first-within, part-body}
 pub use Rattle.fit.proofs.Words.{GoodRule}
 -- Matching is sound and complete for fit, and the bodies are the only ones.
 pub use Rattle.fit.proofs.Words.{same-term, sound, complete, unique, none-fits}
@@ -19,8 +19,8 @@ pub use Rattle.fit.proofs.Above.{head-nothing, head-node, shape-end, sh
 pub use Rattle.fit.proofs.Above.{occurrences-end, occurrences-hole, occurrences-part, Each, Names, EachNames, each-join, first-each, constraints-name}
 pub use Rattle.fit.proofs.Above.{body-nothing, body-node, body-at, holds-closed, holds-same, all-hold-none, all-hold-more}
 pub use Rattle.fit.proofs.Above.{IsThere, occurs-first, beyond-first, FirstBody, matched-first, lowest-zero, lowest-more}
-pub use Rattle.fit.proofs.Above.{OneVariable, constraints-one, first-variable, Counted, rule-counted, constraints-few}
-pub use Rattle.fit.proofs.Above.{left-of-nothing, left-of-symbol, left-of-abstraction, left-of-variable, left-of-pattern, left-in}
+pub use Rattle.fit.proofs.Above.{OneVariable, constraints-one, first-variable, Counted, rule-counted}
+pub use Rattle.fit.proofs.Above.{left-of-nothing, left-of-symbol, left-of-abstraction, left-of-pattern, left-in}
 -- Building is limited by what it says: formed, 64 levels and 4,096 words.
 pub use Rattle.fit.proofs.BuildAnswers.{within-is, over-is}
 -- Built then matched, and matched then built: over words, and over what the operations answer and leave.

@@ -1,18 +1,16 @@
 -- The lowest rule that fits: it fits, with the only bodies, and no rule below it does; none only where no rule fits.
-use mathlib.Core.Path.{_≡_, refl, sym, ap, _∙_}
+use mathlib.Core.Path.{_≡_, refl}
 use mathlib.Core.List.{List}
 use mathlib.Core.Option.{Option, none, some}
 use Prim.Native.Nat.{ℕ, zero, suc, _+_, _≤_, _<_}
 use native.Mathlib.Omega.{arith}
 use native.Mathlib.Decide.{decLe}
-use mathlib.Core.Logic.{_⊎_, inl, inr, ⊎-elim}
 use Rattle.term.specs.Row.{Row, width, words}
 use Rattle.book.specs.Book.{Rule, ruleAt}
 use Rattle.term.proofs.Laws.{never}
-use Rattle.fit.specs.Fit.{Fits, matching}
+use Rattle.fit.specs.Fit.{WithinTerm, Fits}
 use Rattle.fit.specs.Match.{leftIn}
 use Rattle.fit.specs.Lowest.{Fitting, orNext, matchingO, lowest}
-use Rattle.fit.proofs.Matching.{WithinTerm}
 use Rattle.fit.proofs.Words.{GoodRule, sound, none-fits}
 
 -- no bodies at all turn the left side of the rule of this number into the term

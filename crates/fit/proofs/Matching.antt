@@ -1,42 +1,38 @@
 -- Matching is sound and complete for fit, and the bodies are the only ones.
-use mathlib.Core.Path.{_≡_, refl, sym, ap, ap₂, _∙_}
-use mathlib.Core.Bool.{Bool, true, false, _&&_}
+use mathlib.Core.Path.{_≡_, refl, sym, ap, _∙_}
+use mathlib.Core.Bool.{Bool, true, false}
 use mathlib.Core.List.{List, [], _∷_, _++_}
 use mathlib.Core.Option.{Option, none, some}
-use Prim.Native.Nat.{ℕ, zero, suc, _+_, _≤_, _<_, max}
+use Prim.Native.Nat.{ℕ, suc, _+_, _<_}
 use native.Mathlib.Omega.{arith}
 use lib.Dec.{eqb}
 use lib.ListN.{length, length-append}
-use borrow.Author.Tests.{eqb-true, eqb-false, eq-eqb, ne-eqb}
+use borrow.Author.Tests.{eqb-true, eq-eqb}
 use Rattle.term.specs.Word.{Head, word, pick, rank}
-use Rattle.term.specs.Row.{Row, nothing, node, width, words, ranks, nesting, Formed, _⧺_}
+use Rattle.term.specs.Row.{Row, nothing, node, width, words}
 use Rattle.term.specs.Check.{IsTerm}
-use Rattle.term.specs.Renumber.{GoodList, inside, toTerm, toBody}
+use Rattle.term.specs.Renumber.{GoodList, inside, toBody}
 use Rattle.term.specs.Part.{sameWords}
-use Rattle.term.proofs.Laws.{never, and-left, and-right, and-both, body-keeps, body-formed, formed-node, node-formed, formed-nothing, words-unique, same-words, words-same, words-node, words-nothing, width-node, width-nothing, ranks-node, ranks-nothing, nesting-node, nesting-nothing}
+use Rattle.term.proofs.Laws.{and-left, and-right, and-both, body-keeps, body-formed, formed-node, node-formed, formed-nothing, words-unique, same-words, words-same, words-node, words-nothing, width-node, width-nothing, ranks-node, ranks-nothing, nesting-node, nesting-nothing}
 use Rattle.fit.specs.Left.{Left, end, hole, part, GoodLeft}
-use Rattle.fit.specs.Fit.{build, IsBody, Found, bodyThen, bothFound, onlyIf, found, bodyB, bodyIn, allSame, agreed, matching}
+use Rattle.fit.specs.Fit.{build, WithinTerm, IsBody, Found, bodyThen, bothFound, onlyIf, found, bodyB, bodyIn, allSame, agreed, matching}
 use Rattle.fit.proofs.Found.{given, Agree, agree-given, found-build, found-builds}
 
--- ---- what is found in a term is bodies
-pub record WithinTerm (t : Row) : Type 0 where
-  pub formed : Formed t
-  pub few : ranks t ≤ 2
-  pub low : nesting t ≤ 64
-  pub short : length (words t) ≤ 4096
-
--- a body is one tree within a term's limits, and so is a term
-pub body-within : (b : Row) → IsBody b → WithinTerm b
-body-within b i = record { formed = i .formed; few = i .few; low = i .low; short = i .short }
-
-pub within-body : (b : Row) → width b ≡ 1 → WithinTerm b → IsBody b
-within-body b one w = record { one = one; formed = w .formed; few = w .few; low = w .low; short = w .short }
-
+-- ---- a term, its rows and its parts
 pub tree-within : (ws : List ℕ) (i : IsTerm ws) → WithinTerm (i .tree)
 tree-within ws i = record { formed = i .formed; few = i .few; low = i .low; short = rw (← i .same) (i .short) }
 
-pub below : (h : Head) (kids rest : Row) → WithinTerm (node h kids rest) → WithinTerm kids
-below h kids rest w =
+-- a term is a body, and a body's words are one term
+pub term-is-body : (ws : List ℕ) (i : IsTerm ws) → IsBody (i .tree)
+term-is-body ws i = record { one = i .one; within = tree-within ws i }
+
+abbrev pub body-is-term : (b : Row) → IsBody b → IsTerm (words b)
+body-is-term b i =
+    let w = i .within in
+    record { tree = b; one = i .one; formed = w .formed; few = w .few; low = w .low; short = w .short; same = refl }
+
+pub kids-within : (h : Head) (kids rest : Row) → WithinTerm (node h kids rest) → WithinTerm kids
+kids-within h kids rest w =
     let n = formed-node h kids rest (w .formed) in
     let l : length (words (node h kids rest)) ≡ suc (length (words kids) + length (words rest)) = ap length (words-node h kids rest) ∙ ap suc (length-append (words kids) (words rest)) in
     record {
@@ -46,8 +42,8 @@ below h kids rest w =
       short = omega (arith, l, w .short);
     }
 
-pub beside : (h : Head) (kids rest : Row) → WithinTerm (node h kids rest) → WithinTerm rest
-beside h kids rest w =
+pub rest-within : (h : Head) (kids rest : Row) → WithinTerm (node h kids rest) → WithinTerm rest
+rest-within h kids rest w =
     let n = formed-node h kids rest (w .formed) in
     let l : length (words (node h kids rest)) ≡ suc (length (words kids) + length (words rest)) = ap length (words-node h kids rest) ∙ ap suc (length-append (words kids) (words rest)) in
     record {
@@ -57,8 +53,8 @@ beside h kids rest w =
       short = omega (arith, l, w .short);
     }
 
-pub alone : (h : Head) (kids rest : Row) → WithinTerm (node h kids rest) → WithinTerm (node h kids nothing)
-alone h kids rest w =
+pub first-within : (h : Head) (kids rest : Row) → WithinTerm (node h kids rest) → WithinTerm (node h kids nothing)
+first-within h kids rest w =
     let n = formed-node h kids rest (w .formed) in
     let l : length (words (node h kids rest)) ≡ suc (length (words kids) + length (words rest)) = ap length (words-node h kids rest) ∙ ap suc (length-append (words kids) (words rest)) in
     let k : length (words (node h kids nothing)) ≡ suc (length (words kids) + length (words nothing)) = ap length (words-node h kids nothing) ∙ ap suc (length-append (words kids) (words nothing)) in
@@ -70,6 +66,7 @@ alone h kids rest w =
       short = omega (arith, l, k, z, w .short);
     }
 
+-- ---- what is found in a term is bodies
 abbrev pub AllBodies : Found → Type 0
 AllBodies [] = Unit {0}
 AllBodies (p ∷ l) = IsBody (p .1) × AllBodies l
@@ -88,10 +85,13 @@ part-body d ys t g one w b e =
     let k = body-keeps d ys t b e in
     record {
       one = k .wide ∙ one;
-      formed = body-formed d ys g t b (w .formed) (w .low) e;
-      few = omega (arith, k .rank, w .few);
-      low = omega (arith, k .deep, w .low);
-      short = omega (arith, k .long, w .short);
+      within =
+          record {
+            formed = body-formed d ys g t b (w .formed) (w .low) e;
+            few = omega (arith, k .rank, w .few);
+            low = omega (arith, k .deep, w .low);
+            short = omega (arith, k .long, w .short);
+          };
     }
 
 all-hole : (d x : ℕ) (ys : List ℕ) (t : Row) → GoodList d ys → width t ≡ 1 → WithinTerm t → (o : Option Row) (q : Option Found) → toBody d ys t ≡ o → AllO q → AllO (bodyThen x o q)
@@ -111,12 +111,12 @@ all-bodies vars d end nothing g w = tt
 all-bodies vars d end (node h ts rs) g w = tt
 all-bodies vars d (hole x ys rest) nothing g w = tt
 all-bodies vars d (hole x ys rest) (node h ts rs) g w =
-    all-hole d x ys (node h ts nothing) (g .1) (width-node h ts nothing ∙ ap suc width-nothing) (alone h ts rs w)
-    (toBody d ys (node h ts nothing)) (found d rest rs) refl (all-bodies vars d rest rs (g .2) (beside h ts rs w))
+    all-hole d x ys (node h ts nothing) (g .1) (width-node h ts nothing ∙ ap suc width-nothing) (first-within h ts rs w)
+    (toBody d ys (node h ts nothing)) (found d rest rs) refl (all-bodies vars d rest rs (g .2) (rest-within h ts rs w))
 all-bodies vars d (part h kids rest) nothing g w = tt
 all-bodies vars d (part h kids rest) (node i ts rs) g w =
     all-part (eqb (word h) (word i)) (found (inside h d) kids ts) (found d rest rs)
-    (all-bodies vars (inside h d) kids ts (g .3) (below i ts rs w)) (all-bodies vars d rest rs (g .4) (beside i ts rs w))
+    (all-bodies vars (inside h d) kids ts (g .3) (kids-within i ts rs w)) (all-bodies vars d rest rs (g .4) (rest-within i ts rs w))
 
 pub found-bodies : (vars d : ℕ) (p : Left) (t : Row) (l : Found) → GoodLeft vars d p → WithinTerm t → found d p t ≡ some l → AllBodies l
 found-bodies vars d p t l g w e = rw e at (all-bodies vars d p t g w)
@@ -124,7 +124,7 @@ found-bodies vars d p t l g w e = rw e at (all-bodies vars d p t g w)
 -- ---- the first body of each variable
 same-body : (b c : Row) → IsBody b → IsBody c → sameWords (words b) (words c) ≡ true → b ≡ c
 same-body b c i j e =
-    words-unique b c [] [] (i .formed) (j .formed) (i .one ∙ sym (j .one)) (ap (λ (l : List ℕ). l ++ []) (same-words (words b) (words c) e)) .0
+    words-unique b c [] [] (i .within .formed) (j .within .formed) (i .one ∙ sym (j .one)) (ap (λ (l : List ℕ). l ++ []) (same-words (words b) (words c) e)) .0
 
 -- the first body of a variable of the list is one of its bodies
 abbrev pub FirstIs : Found → Found → Type 0

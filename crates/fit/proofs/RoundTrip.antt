@@ -10,9 +10,9 @@ use Rattle.term.specs.declared.check.Checked.{Checked}
 use Rattle.term.specs.declared.check.Checked.the-variants.{Good, Bad}
 use Rattle.term.specs.declared.answer.Answer.{Answer}
 use Rattle.term.specs.declared.answer.Answer.the-variants.{Done, Over}
-use Rattle.term.specs.Row.{Row, width, words}
+use Rattle.term.specs.Row.{Row, width, words, ranks, nesting, Formed}
 use Rattle.term.specs.Word.{pick}
-use Rattle.term.specs.Check.{IsTerm, check, termLimits}
+use Rattle.term.specs.Check.{check, termLimits}
 use Rattle.term.specs.Renumber.{inside}
 use Rattle.term.proofs.Laws.{never, tree-good, good-tree}
 use Rattle.book.specs.declared.accept.Accepted.{Accepted}
@@ -26,7 +26,7 @@ use Rattle.fit.specs.Match.{treeOf, leftIn, bodyList, lengthList, Matche
 use Rattle.fit.specs.Build as building
 use Rattle.fit.specs.Build.{wordsAt, givenBodies, goodLengths, checkBodies, Built, built, withinLimits, limited, withBodies, withLengths, buildLeft}
 use Rattle.fit.specs.told.BuildWalk.{Given}
-use Rattle.fit.proofs.Matching.{WithinTerm, tree-within, matched-built}
+use Rattle.fit.proofs.Matching.{term-is-body, body-is-term, matched-built}
 use Rattle.fit.proofs.Words.{GoodRule, sound, complete}
 use Rattle.fit.proofs.Accepted.{tree-of, accepted-good}
 use Rattle.fit.proofs.Asked.{sound-good, match-asked, build-asked}
@@ -123,29 +123,28 @@ module _ (book : List ℕ) (number : ℕ) (ws : List ℕ) where
   matched-is vars b e = rw e at matched-o
 
 -- ---- built, then matched
-record One (t : Row) : Type 0 where
-  good : check termLimits (words t) ≡ Good
-  tree : treeOf (words t) ≡ t
-  wide : width t ≡ 1
-  within : WithinTerm t
+-- a body's words are one term, and the tree that they are is the body
+pub body-good : (b : Row) → IsBody b → check termLimits (words b) ≡ Good
+body-good b i = tree-good termLimits (words b) (body-is-term b i)
+
+pub body-tree : (b : Row) → IsBody b → treeOf (words b) ≡ b
+body-tree b i = tree-of termLimits (words b) (body-is-term b i)
 
 module _ (book : List ℕ) (number : ℕ) (bodies lengths : List ℕ) (t : Row) (i : BuiltIs book number bodies lengths t) where
   given : Given (i .rule .vars) bodies lengths
   given = given-good (i .rule .vars) bodies lengths (book-rule book number (i .rule) (sound-good book (i .accepted)) (i .found) .few) (sum-lengths (i .rule .vars) bodies lengths (i .lengths-good) .0) (i .bodies-good)
 
   -- what was built is one term
-  one-term : One t
+  one-term : IsBody t
   one-term =
-      let r = build (givenBodies bodies lengths) 0 (leftIn (i .rule)) in
       let c : withinLimits (build (givenBodies bodies lengths) 0 (leftIn (i .rule))) ≡ true = rw (i .is) (i .good) in
       let w = term-within book number (i .rule) (i .accepted) (i .found) bodies lengths (i .lengths-good) (i .bodies-good) c in
       let o = one book number (i .rule) (i .accepted) (i .found) bodies lengths (i .lengths-good) (i .bodies-good) in
       let k = few book number (i .rule) (i .accepted) (i .found) bodies lengths (i .lengths-good) (i .bodies-good) in
-      let j : IsTerm (words r) = record { tree = r; one = o; formed = w .0; few = k; low = w .1; short = w .2; same = refl } in
-      rw (i .is) at (whole r (tree-good termLimits (words r) j) (tree-of termLimits (words r) j) o (record { formed = w .0; few = k; low = w .1; short = w .2 }))
+      rw (i .is) at (whole (build (givenBodies bodies lengths) 0 (leftIn (i .rule))) o (w .0) k (w .1) (w .2))
     where
-      whole : (r : Row) → check termLimits (words r) ≡ Good → treeOf (words r) ≡ r → width r ≡ 1 → WithinTerm r → One r
-      whole r g e o w = record { good = g; tree = e; wide = o; within = w }
+      whole : (r : Row) → width r ≡ 1 → Formed r → ranks r ≤ 2 → nesting r ≤ 64 → length (words r) ≤ 4096 → IsBody r
+      whole r o f k n l = record { one = o; within = record { formed = f; few = k; low = n; short = l } }
 
   given-words : (x : ℕ) → x < i .rule .vars → words (givenBodies bodies lengths x) ≡ wordsAt bodies lengths x
   unfolding givenBodies
@@ -158,11 +157,11 @@ module _ (book : List ℕ) (number : ℕ) (bodies lengths : List ℕ) (t : Row) 
   back l =
       let z = sum-lengths (i .rule .vars) bodies lengths (i .lengths-good) .1 in
       let f : Fits (i .rule .vars) (leftIn (i .rule)) (words t) (givenBodies bodies lengths) = record { bodies = λ x h. given-body bodies lengths x (given .terms x h); same = ap words (i .is) } in
-      let m = complete (i .rule .vars) (leftIn (i .rule)) (accepted-good book (sound-good book (i .accepted)) number (i .rule) (i .found)) t (one-term .within) (one-term .wide) (givenBodies bodies lengths) f in
+      let m = complete (i .rule .vars) (leftIn (i .rule)) (accepted-good book (sound-good book (i .accepted)) number (i .rule) (i .found)) t (one-term .within) (one-term .one) (givenBodies bodies lengths) f in
       let same : (x : ℕ) → x < i .rule .vars → words (m .0 x) ≡ wordsAt bodies lengths x = λ x h. ap words (m .2 x h) ∙ given-words x h in (
         i .rule .vars,
         m .0,
-        match-asked book number (words t) (i .accepted) (i .rule) (i .found) (one-term .good) ∙ rw (one-term .tree, m .1),
+        match-asked book number (words t) (i .accepted) (i .rule) (i .found) (body-good t one-term) ∙ rw (body-tree t one-term, m .1),
         bodies-back (i .rule .vars) bodies lengths given (m .0) same z,
         lengths-back (i .rule .vars) bodies lengths given (m .0) same z l,
       )
@@ -180,29 +179,17 @@ build-agree vars f g e d end q = refl
 build-agree vars f g e d (hole x ys rest) q = rw (e x (q .0), build-agree vars f g e d rest (q .2))
 build-agree vars f g e d (part h kids rest) q = rw (build-agree vars f g e (inside h d) kids (q .3), build-agree vars f g e d rest (q .4))
 
--- a body's words are one term, and the tree that they are is the body
-body-term : (b : Row) → IsBody b → IsTerm (words b)
-body-term b i = record { tree = b; one = i .one; formed = i .formed; few = i .few; low = i .low; short = i .short; same = refl }
-
-pub body-good : (b : Row) → IsBody b → check termLimits (words b) ≡ Good
-body-good b i = tree-good termLimits (words b) (body-term b i)
-
-pub body-tree : (b : Row) → IsBody b → treeOf (words b) ≡ b
-unfolding body-term
-body-tree b i = tree-of termLimits (words b) (body-term b i)
-
 module _ (book : List ℕ) (number : ℕ) (ws : List ℕ) (vars : ℕ) (b : ℕ → Row) (i : MatchedIs book number ws vars b) where
   -- the term that the words are
   record Term (t : Row) : Type 0 where
     same : words t ≡ ws
-    wide : width t ≡ 1
-    within : WithinTerm t
+    body : IsBody t
 
   term : Term (treeOf ws)
   term =
       let j = good-tree termLimits (omega arith) ws (i .good) in
       rw (tree-of termLimits ws j)
-      (record { same = sym (j .same); wide = j .one; within = tree-within ws j })
+      (record { same = sym (j .same); body = term-is-body ws j })
 
   rule-good : GoodRule (i .rule .vars) (leftIn (i .rule))
   rule-good = accepted-good book (sound-good book (i .accepted)) number (i .rule) (i .found)
@@ -211,7 +198,7 @@ module _ (book : List ℕ) (number : ℕ) (ws : List ℕ) (vars : ℕ) (b : ℕ 
   few-vars = book-rule book number (i .rule) (sound-good book (i .accepted)) (i .found) .few
 
   bodies-are : (x : ℕ) → x < i .rule .vars → IsBody (b x)
-  bodies-are = sound (i .rule .vars) (leftIn (i .rule)) rule-good (treeOf ws) (term .within) b (i .fits) .bodies
+  bodies-are = sound (i .rule .vars) (leftIn (i .rule)) rule-good (treeOf ws) (term .body .within) b (i .fits) .bodies
 
   abbrev bodies : List ℕ
   bodies = bodyList b 0 (i .rule .vars)
@@ -226,14 +213,14 @@ module _ (book : List ℕ) (number : ℕ) (ws : List ℕ) (vars : ℕ) (b : ℕ 
   builds : build (givenBodies bodies lengths) 0 (leftIn (i .rule)) ≡ treeOf ws
   builds =
       build-agree (i .rule .vars) (givenBodies bodies lengths) b given-are 0 (leftIn (i .rule)) (rule-good .good)
-      ∙ matched-built (i .rule .vars) (leftIn (i .rule)) (rule-good .good) (treeOf ws) (term .within) b (i .fits)
+      ∙ matched-built (i .rule .vars) (leftIn (i .rule)) (rule-good .good) (treeOf ws) (term .body .within) b (i .fits)
 
   rebuilt : buildLeft book number bodies lengths ≡ built (treeOf ws)
   unfolding limited
   rebuilt =
       let l = list-lengths (i .rule .vars) b few-vars in
       let c = list-bodies (i .rule .vars) b few-vars (λ x h. body-good (b x) (bodies-are x h)) in
-      let g : withinLimits (treeOf ws) ≡ true = within-limits (treeOf ws) (term .within .formed) (term .within .low) (term .within .short) in
+      let g : withinLimits (treeOf ws) ≡ true = within-limits (treeOf ws) (term .body .within .formed) (term .body .within .low) (term .body .within .short) in
       build-asked book number bodies lengths (i .accepted) (i .rule) (i .found) l c ∙ rw (builds, g)
 
 -- "building from the bodies of a match, given room, gives the term again"

@@ -1,22 +1,21 @@
 -- Fit, word for word: bodies that give the term's words give the term, and matching finds them.
-use mathlib.Core.Path.{_≡_, refl, sym, ap, ap₂, _∙_}
-use mathlib.Core.Bool.{Bool, true, false, _&&_, _||_}
+use mathlib.Core.Path.{_≡_, refl, sym, ap, _∙_}
+use mathlib.Core.Bool.{Bool, true, false, _||_}
 use mathlib.Core.List.{List, [], _∷_, _++_}
 use mathlib.Core.Option.{Option, none, some}
-use Prim.Native.Nat.{ℕ, zero, suc, _+_, _≤_, _<_, max}
+use Prim.Native.Nat.{ℕ, suc, _+_, _≤_, _<_, max}
 use native.Mathlib.Omega.{arith}
 use native.Mathlib.Nat.{le-max-left, le-max-right}
 use lib.Dec.{eqb}
-use lib.ListN.{length}
-use borrow.Author.Tests.{eqb-true, eqb-false, eq-eqb, ne-eqb}
-use Rattle.term.specs.Word.{Head, word, count, pick}
-use Rattle.term.specs.Row.{Row, nothing, node, width, words, ranks, nesting, Formed, _⧺_}
+use borrow.Author.Tests.{eqb-true}
+use Rattle.term.specs.Word.{word, pick}
+use Rattle.term.specs.Row.{Row, nothing, node, width, words}
 use Rattle.term.specs.Renumber.{inside, toTerm, toBody}
 use Rattle.term.proofs.Laws.{never, Near, near-unique, near-nothing, near-node, near-join, term-near, term-keeps, width-join, width-node, width-nothing, inside-le}
 use Rattle.fit.specs.Left.{Left, end, hole, part, wide, deep, GoodLeft, occurs}
-use Rattle.fit.specs.Fit.{build, IsBody, Fits, Found, bodyThen, bothFound, onlyIf, found, bodyIn, allSame, agreed, matching}
+use Rattle.fit.specs.Fit.{build, WithinTerm, IsBody, Fits, Found, bodyThen, bothFound, onlyIf, found, bodyIn, allSame, agreed, matching}
 use Rattle.fit.proofs.Found.{given}
-use Rattle.fit.proofs.Matching.{WithinTerm, Is, FirstIs, first-is, found-bodies, matched-built, built-matched}
+use Rattle.fit.proofs.Matching.{Is, FirstIs, first-is, found-bodies, matched-built, built-matched}
 
 -- ---- what is built is near a term
 width-build : (vars : ℕ) (b : ℕ → Row) → ((x : ℕ) → x < vars → IsBody (b x)) → (d : ℕ) (p : Left) → GoodLeft vars d p → width (build b d p) ≡ wide p
@@ -32,7 +31,7 @@ unfolding build deep GoodLeft
 near-build vars b i d end g l = near-nothing
 near-build vars b i d (hole x ys rest) g l =
     let j = i x (g .0) in
-    near-join (toTerm d ys (b x)) (build b d rest) (term-near d ys (g .1) (omega arith) (b x) (j .formed) (j .few) (j .low)) (near-build vars b i d rest (g .2) l)
+    near-join (toTerm d ys (b x)) (build b d rest) (term-near d ys (g .1) (omega arith) (b x) (j .within .formed) (j .within .few) (j .within .low)) (near-build vars b i d rest (g .2) l)
 near-build vars b i d (part h kids rest) g l =
     let k : suc (deep kids) ≤ max (suc (deep kids)) (deep rest) = le-max-left _ _ in
     let r : deep rest ≤ max (suc (deep kids)) (deep rest) = le-max-right _ _ in

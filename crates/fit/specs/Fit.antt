@@ -1,11 +1,11 @@
 -- Document 01, "Fit": a rule fits a term when some bodies, one for each variable, turn its left side into that term, word for word.
-use Prim.Native.Nat.{ℕ, zero, suc, _≤_, _<_}
+use Prim.Native.Nat.{ℕ, _≤_, _<_}
 use mathlib.Core.Path.{_≡_}
 use mathlib.Core.Bool.{Bool, true, false, _&&_}
 use mathlib.Core.List.{List, [], _∷_, _++_}
 use mathlib.Core.Option.{Option, none, some}
 use lib.Dec.{eqb}
-use Rattle.term.specs.Word.{Head, word, pick}
+use Rattle.term.specs.Word.{word, pick}
 use Rattle.term.specs.Part.{sameWords}
 use Rattle.term.specs.Row.{Row, nothing, node, width, words, ranks, nesting, Formed, _⧺_}
 use lib.ListN.{length}
@@ -18,13 +18,17 @@ build b d end = nothing
 build b d (hole x ys rest) = toTerm d ys (b x) ⧺ build b d rest
 build b d (part h kids rest) = node h (build b (inside h d) kids) (build b d rest)
 
--- a body is itself one term
+-- "A term has kinds 0 to 2, 1 to 4,096 words, nesting at most 64", of a row of so many trees as there are
+pub record WithinTerm (t : Row) : Type 0 where
+  pub formed : Formed t
+  pub few : ranks t ≤ 2
+  pub low : nesting t ≤ 64
+  pub short : length (words t) ≤ 4096
+
+-- "a body, which is itself one term"
 pub record IsBody (b : Row) : Type 0 where
   pub one : width b ≡ 1
-  pub formed : Formed b
-  pub few : ranks b ≤ 2
-  pub low : nesting b ≤ 64
-  pub short : length (words b) ≤ 4096
+  pub within : WithinTerm b
 
 -- bodies for the variables 0..vars−1 that turn the left side into the term with these words
 pub record Fits (vars : ℕ) (left : Left) (ws : List ℕ) (b : ℕ → Row) : Type 0 where
