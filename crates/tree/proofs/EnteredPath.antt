@@ -4,7 +4,7 @@ use mathlib.Core.Bool.{Bool, true, false}
 use mathlib.Core.List.{List, [], _∷_, _++_}
 use Prim.Native.Nat.{ℕ, zero, suc, _+_, _<_}
 use native.Mathlib.Omega.{arith}
-use lib.ListN.{length}
+use lib.ListN.{length, length-append}
 use Rattle.term.specs.Word.{pick}
 use Rattle.term.specs.Part.{sameWords}
 use Rattle.term.proofs.Laws.{never, same-words, words-same}
@@ -148,6 +148,15 @@ unfolding marked
 length-marked [] n = refl
 length-marked (u ∷ us) zero = refl
 length-marked (u ∷ us) (suc n) = ap suc (length-marked us n)
+
+length-children : (p : Place) (i more : ℕ) → length (childrenFrom p i more) ≡ more
+unfolding childrenFrom
+length-children p i zero = refl
+length-children p i (suc more) = ap suc (length-children p (suc i) more)
+
+pub length-enter : (us : List Uncovered) (n c : ℕ) → length (enter n c us) ≡ length us + c
+unfolding enter
+length-enter us n c = omega (arith, length-append (marked n us) (childrenFrom (placeNumbered n us) 0 c), length-marked us n, length-children (placeNumbered n us) 0 c)
 
 -- ---- the path on which a place is entered
 module _ (us : List Uncovered) (n c : ℕ) where

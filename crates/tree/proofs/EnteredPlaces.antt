@@ -10,8 +10,7 @@ use Rattle.term.proofs.Laws.{never}
 use Rattle.fit.specs.Constraint.{Place}
 use Rattle.tree.specs.told.Covered.{numberedAs, isOpen}
 use Rattle.tree.specs.Path.{Uncovered, placeNumbered, enter}
-use Rattle.tree.proofs.Bounds.{length-enter}
-use Rattle.tree.proofs.EnteredPath.{child-number, open-within, enter-old, enter-other, enter-place, enter-new, enter-keeps, enter-shuts}
+use Rattle.tree.proofs.EnteredPath.{child-number, open-within, length-enter, enter-old, enter-other, enter-place, enter-new, enter-keeps, enter-shuts}
 
 module _ (us : List Uncovered) (n c : ℕ) (opened : isOpen n us ≡ true) (own : (m : ℕ) → m < length us → numberedAs (placeNumbered m us) us ≡ suc m)
     (new : (m i : ℕ) → isOpen m us ≡ true → numberedAs (i ∷ placeNumbered m us) us ≡ 0)

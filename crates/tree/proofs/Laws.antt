@@ -29,9 +29,8 @@ pub use Rattle.tree.proofs.Subs.{subsFrom, from-end, from-hole, from-pa
 pub use Rattle.tree.proofs.Finds.{InTables, tables-add}
 -- Numbers and places of a path, which places are open, and what entering one changes.
 pub use Rattle.tree.proofs.Numbers.{numbered-within, number-leads, number-there, open-entered, entered-open, root-numbered, below-root, open-root, open-later, root-place, LeastO, least-open}
-pub use Rattle.tree.proofs.EnteredPath.{child-number, open-within, enter-old, enter-child, enter-other, enter-place, enter-new, enter-keeps, enter-shuts, enter-opens}
+pub use Rattle.tree.proofs.EnteredPath.{child-number, open-within, length-enter, enter-old, enter-child, enter-other, enter-place, enter-new, enter-keeps, enter-shuts, enter-opens}
 pub use Rattle.tree.proofs.EnteredPlaces.{entered-once, entered-new, entered-above}
-pub use Rattle.tree.proofs.Bounds.{length-enter}
 pub use Rattle.tree.proofs.Covers.{all-within, enter-covered, start-covered}
 pub use Rattle.tree.proofs.Fits.{OpenAt, enteredOf, open-at}
 -- The rows that a test keeps.

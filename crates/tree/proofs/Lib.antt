@@ -14,8 +14,6 @@ mod Layouts
 mod Walks
 mod Ways
 mod Clauses
-mod Bounds
-mod Starts
 mod Kept
 mod Totals
 mod TermParts

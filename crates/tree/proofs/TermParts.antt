@@ -5,15 +5,15 @@ use mathlib.Core.List.{List, [], _∷_, _++_}
 use mathlib.Core.Option.{Option, none, some}
 use Prim.Native.Nat.{ℕ, zero, suc, _+_, _<_}
 use native.Mathlib.Omega.{arith}
-use lib.ListN.{length, length-append}
+use lib.ListN.{length}
 use Rattle.term.specs.Word.{Head}
 use Rattle.term.specs.Row.{Row, nothing, node, words}
 use Rattle.term.specs.Renumber.{GoodList}
 use Rattle.term.specs.Part.{isSome}
-use Rattle.term.proofs.Laws.{never, words-nothing, words-node, width-nothing, width-node, nesting-nothing, nesting-node, ranks-nothing, ranks-node, formed-nothing, formed-node, node-formed, body-keeps, body-formed}
-use Rattle.fit.specs.Fit.{IsBody}
+use Rattle.term.proofs.Laws.{never, words-nothing, width-nothing, width-node, nesting-nothing, ranks-nothing, formed-nothing}
+use Rattle.fit.specs.Fit.{WithinTerm, IsBody}
 use Rattle.fit.specs.Constraint.{childrenOf, bodyHere}
-use Rattle.fit.proofs.Laws.{WithinTerm, children-nothing, children-node, body-nothing, body-node}
+use Rattle.fit.proofs.Laws.{kids-within, rest-within, first-within, part-body, children-nothing, children-node, body-nothing, body-node}
 use Rattle.tree.specs.Tree.{LeafVariable, countsOf}
 use Rattle.tree.specs.Find.{PartAt, rootPart, partOf, markedPart, childParts, insideOf, enterPart, bodyFor, bodyOr, leafBody}
 use Rattle.tree.proofs.Walks.{AllSound}
@@ -31,51 +31,23 @@ unfolding partOf
 part-root t = refl
 
 -- ---- a row of a term and its trees
-long-node : (h : Head) (kids rest : Row) → length (words (node h kids rest)) ≡ suc (length (words kids) + length (words rest))
-long-node h kids rest = ap length (words-node h kids rest) ∙ ap suc (length-append (words kids) (words rest))
-
 nothing-within : WithinTerm nothing
 nothing-within =
     let z : length (words nothing) ≡ 0 = ap length words-nothing in
     record { formed = formed-nothing; few = omega (arith, ranks-nothing); low = omega (arith, nesting-nothing); short = omega (arith, z) }
 
 first-term : (h : Head) (kids rest : Row) → WithinTerm (node h kids rest) → IsBody (node h kids nothing)
-first-term h kids rest w =
-    let n = formed-node h kids rest (w .formed) in
-    let z : length (words nothing) ≡ 0 = ap length words-nothing in
-    record {
-      one = width-node h kids nothing ∙ ap suc width-nothing;
-      formed = node-formed h kids nothing (record { table = n .table; full = n .full; below = n .below; beside = formed-nothing });
-      few = omega (arith, ranks-node h kids rest, ranks-node h kids nothing, ranks-nothing, w .few);
-      low = omega (arith, nesting-node h kids rest, nesting-node h kids nothing, nesting-nothing, w .low);
-      short = omega (arith, long-node h kids rest, long-node h kids nothing, z, w .short);
-    }
-
-others-within : (h : Head) (kids rest : Row) → WithinTerm (node h kids rest) → WithinTerm rest
-others-within h kids rest w =
-    record {
-      formed = formed-node h kids rest (w .formed) .beside;
-      few = omega (arith, ranks-node h kids rest, w .few);
-      low = omega (arith, nesting-node h kids rest, w .low);
-      short = omega (arith, long-node h kids rest, w .short);
-    }
+first-term h kids rest w = record { one = width-node h kids nothing ∙ ap suc width-nothing; within = first-within h kids rest w }
 
 children-within : (t : Row) → IsBody t → WithinTerm (childrenOf t)
 children-within nothing i = rw children-nothing nothing-within
-children-within (node h kids rest) i =
-    rw (children-node h kids rest)
-    (record {
-      formed = formed-node h kids rest (i .formed) .below;
-      few = omega (arith, ranks-node h kids rest, i .few);
-      low = omega (arith, nesting-node h kids rest, i .low);
-      short = omega (arith, long-node h kids rest, i .short);
-    })
+children-within (node h kids rest) i = rw (children-node h kids rest) (kids-within h kids rest (i .within))
 
 -- ---- entering a part
 terms-children : (d : ℕ) (f : Row) → WithinTerm f → AllTerms (childParts d f)
 unfolding AllTerms childParts
 terms-children d nothing w = tt
-terms-children d (node h kids rest) w = (first-term h kids rest w, terms-children d rest (others-within h kids rest w))
+terms-children d (node h kids rest) w = (first-term h kids rest w, terms-children d rest (rest-within h kids rest w))
 
 terms-join : (ps qs : List PartAt) → AllTerms ps → AllTerms qs → AllTerms (ps ++ qs)
 unfolding AllTerms
@@ -109,16 +81,7 @@ part-term (suc n) (p ∷ ps) a h = part-term n ps (a .1) (omega arith)
 
 body-here : (d : ℕ) (ys : List ℕ) → GoodList d ys → (t : Row) → IsBody t → (b : Row) → bodyHere d ys t ≡ some b → IsBody b
 body-here d ys g nothing i b e = never (let z = body-nothing d ys in cc)
-body-here d ys g (node h kids rest) i b e =
-    let q = sym (body-node d ys h kids rest) ∙ e in
-    let k = body-keeps d ys (node h kids rest) b q in
-    record {
-      one = k .wide ∙ i .one;
-      formed = body-formed d ys g (node h kids rest) b (i .formed) (i .low) q;
-      few = omega (arith, k .rank, i .few);
-      low = omega (arith, k .deep, i .low);
-      short = omega (arith, k .long, i .short);
-    }
+body-here d ys g (node h kids rest) i b e = part-body d ys (node h kids rest) g (i .one) (i .within) b (sym (body-node d ys h kids rest) ∙ e)
 
 given-term : (d : ℕ) (ys : List ℕ) → GoodList d ys → (t : Row) → IsBody t → isSome (bodyHere d ys t) ≡ true → IsBody (bodyOr (bodyHere d ys t))
 given-term d ys g t i e = go (bodyHere d ys t) refl e
