@@ -56,7 +56,10 @@ module _ (ws : List ℕ) (parted : Parted ws) (some-words : 0 < length ws) where
       let b = parted .begins 0 some-words in
       let s = b .2 in
       rw (from-stands ws 0 (b .0) (b .1) (parted .short) s)
-      (record { one = s .wide; formed = s .formed; few = s .few; low = s .low; short = omega (arith, parted .short, ap length (s .same), length-append (words (b .0)) (b .1)) })
+      (record {
+        one = s .wide;
+        within = record { formed = s .formed; few = s .few; low = s .low; short = omega (arith, parted .short, ap length (s .same), length-append (words (b .0)) (b .1)) };
+      })
 
   pub part-word : (v : ℕ) → isWord v (partFrom ws 0) ≡ eqb v (getD ws 0 0)
   unfolding isWord
@@ -77,7 +80,7 @@ bodies-room b x (suc n) h =
     omega (arith, e, h x (omega arith) (omega arith), r)
 
 pub sixteen-room : (b : ℕ → Row) (n : ℕ) → n ≤ 16 → ((x : ℕ) → x < n → IsBody (b x)) → length (bodyList b 0 n) ≤ 65536
-sixteen-room b n few i = omega (arith, few, bodies-room b 0 n (λ y l m. i y (omega arith) .short))
+sixteen-room b n few i = omega (arith, few, bodies-room b 0 n (λ y l m. i y (omega arith) .within .short))
 
 -- ---- what is answered and left
 module _ (book table ws : List ℕ) (short : length table ≤ 16384) where

@@ -20,7 +20,7 @@ use Rattle.book.proofs.Laws.{rule-number}
 use Rattle.fit.specs.Fit.{Fits}
 use Rattle.fit.specs.Match.{treeOf, leftIn, bodyList, lengthList, fitted}
 use Rattle.fit.specs.Lowest.{Fitting, lowest}
-use Rattle.fit.proofs.Laws.{WithinTerm, unique, tree-of, LowestIs, LowestFits, lowest-none, lowest-some, accepted-good, book-lowest, refused-answer, fitted-room, fitted-short, same-bodies}
+use Rattle.fit.proofs.Laws.{tree-within, unique, tree-of, LowestIs, LowestFits, lowest-none, lowest-some, accepted-good, book-lowest, refused-answer, fitted-room, fitted-short, same-bodies}
 use Rattle.tree.specs.Compile.{bookTree}
 use Rattle.tree.proofs.Laws.{Lies, varsOf, varsIn}
 use Rattle.walk.specs.Walk.{walk, noBook}
@@ -43,11 +43,8 @@ module _ (s : Answered) where
   done-short p q = let z : _≡_ {A = ℕ} 0 13 = ap (λ (a : Answered). a .number) (sym p ∙ q) in omega arith
 
 module _ (book : List ℕ) (accepted : checkBook book ≡ Good) (ws : List ℕ) (term : IsTerm ws) where
-  within : WithinTerm (term .tree)
-  within = record { formed = term .formed; few = term .few; low = term .low; short = rw (← term .same) (term .short) }
-
   one-fit : (rule : Rule) (number : ℕ) → ruleAt book number ≡ some rule → (b c : ℕ → Row) → Fits (rule .vars) (leftIn rule) ws b → Fits (rule .vars) (leftIn rule) ws c → (x : ℕ) → x < rule .vars → b x ≡ c x
-  one-fit rule number e b c f g = unique (rule .vars) (leftIn rule) (accepted-good book accepted number rule e) (term .tree) within (term .one) b c (rw (term .same) at f) (rw (term .same) at g)
+  one-fit rule number e b c f g = unique (rule .vars) (leftIn rule) (accepted-good book accepted number rule e) (term .tree) (tree-within ws term) (term .one) b c (rw (term .same) at f) (rw (term .same) at g)
 
   pub only-fit : (number : ℕ) (rule : Rule) (b : ℕ → Row) → LowestFit book ws number rule b → OnlyBodies ws rule b
   only-fit number rule b l c f = one-fit rule number (l .is) c b f (l .fits)
