@@ -155,9 +155,9 @@ module _ (u : Under) (levels w : ℕ) (right : List ℕ) (at : ℕ) (bodies leng
       let i = g .body (identOf w) x in
       let n = drop (startOf lengths (identOf w)) bodies in
       record {
-        formed = i .formed;
-        few = i .few;
-        low = i .low;
+        formed = i .within .formed;
+        few = i .within .few;
+        low = i .within .low;
         wide = i .one;
         same = sym (take-append-drop (getD lengths (identOf w) 0) n) ∙ ap (λ (ws : List ℕ). ws ++ drop (getD lengths (identOf w) 0) (drop (startOf lengths (identOf w)) bodies)) (sym (g .same (identOf w) x ∙ words-at-are bodies lengths (identOf w)));
       }

@@ -19,7 +19,7 @@ use Rattle.book.proofs.Laws.{good-accepted}
 use Rattle.fit.specs.Fit.{IsBody}
 use Rattle.fit.specs.Lowest.{Fitting, lowest}
 use Rattle.fit.specs.Build.{withinLimits}
-use Rattle.fit.proofs.Laws.{tree-of, LowestIs, book-lowest}
+use Rattle.fit.proofs.Laws.{term-is-body, body-is-term, tree-of, LowestIs, book-lowest}
 use Rattle.tree.specs.Compile.{bookTree}
 use Rattle.tree.proofs.Laws.{Lies, varsIn}
 use Rattle.walk.specs.Walk.{NoneFits, RuleFits, DamagedAt, walk, bookFits}
@@ -29,12 +29,6 @@ use Rattle.steps.specs.Offset.{partAt, spliced}
 use Rattle.steps.specs.Step.{Sought, Nowhere, FoundAt, Broken, lowestOffset, Stepped, Rests, Becomes, Refused, wholeWithin, stepFound, step}
 use Rattle.steps.specs.Simplify.{Run, Stopped, Ended, simplifyBy, simplify}
 use Rattle.steps.proofs.Steps.{SeekIs, lowest-offset-is, part-term, step-term, StepsTo, EndsAs, rests, used, StopsAs, broken, over, RunIs, run-is, steps-term}
-
-pub term-row : (ws : List ℕ) (i : IsTerm ws) → IsBody (i .tree)
-term-row ws i = record { one = i .one; formed = i .formed; few = i .few; low = i .low; short = rw (i .same) at (i .short) }
-
-abbrev pub row-term : (t : Row) → IsBody t → IsTerm (words t)
-row-term t i = record { tree = t; one = i .one; formed = i .formed; few = i .few; low = i .low; short = i .short; same = refl }
 
 module _ (book : List ℕ) where
   -- the lowest of the book's rules for which some bodies, of all there could be, turn its left side into the tree at an offset, with these bodies; none only where there is none
@@ -83,10 +77,10 @@ module _ (book : List ℕ) (accepted : checkBook book ≡ Good) (table : List �
   best p = lowest book 0 (getD book 0 0) p
 
   looks : (p : Row) → IsBody p → walk (bookFits book) table p ≡ walkedOf (varsIn book) (best p)
-  looks p i = begun-with book accepted p (i .formed) (i .one) table short lies
+  looks p i = begun-with book accepted p (i .within .formed) (i .one) table short lies
 
   best-is : (p : Row) → IsBody p → LowestIs book 0 (getD book 0 0) p (best p)
-  best-is p i = book-lowest book accepted (words p) (row-term p i)
+  best-is p i = book-lowest book accepted (words p) (body-is-term p i)
 
   -- ---- what a walk says is what fits
   none-of : (o : Option Fitting) → walkedOf (varsIn book) o ≡ NoneFits → o ≡ none
@@ -172,9 +166,9 @@ module _ (book : List ℕ) (accepted : checkBook book ≡ Good) (table : List �
     unfolding simplify
     compiled-simplify budget =
         rw (good-accepted book accepted, tree-good termLimits ws term, tree-of termLimits ws term)
-        (run-of budget (term .tree) (term-row ws term) (simplifyBy book table budget (term .tree)) (run-is book table budget (term .tree)))
+        (run-of budget (term .tree) (term-is-body ws term) (simplifyBy book table budget (term .tree)) (run-is book table budget (term .tree)))
 
     -- rewriting at the root with the compiled tree: by the lowest rule that fits
     pub compiled-root : rewriteRoot book table ws ≡ walkedRoot book (walkedOf (varsIn book) (lowest book 0 (getD book 0 0) (term .tree)))
     unfolding rewriteRoot
-    compiled-root = rw (good-accepted book accepted, tree-good termLimits ws term, tree-of termLimits ws term) (ap (walkedRoot book) (looks (term .tree) (term-row ws term)))
+    compiled-root = rw (good-accepted book accepted, tree-good termLimits ws term, tree-of termLimits ws term) (ap (walkedRoot book) (looks (term .tree) (term-is-body ws term)))

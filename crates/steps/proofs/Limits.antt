@@ -103,12 +103,12 @@ module _ (t : Row) (i : IsBody t) (at : ℕ) (l : at < length (words t)) (u : Ro
   pub part-within : Formed u → levelsAbove t at + nesting u ≤ 64 → length (words (spliced t at u)) ≤ 4096 → withinLimits (spliced t at u) ≡ true
   part-within f n w =
       let s = splice-nests t at l u in
-      within-limits (spliced t at u) (s .formed (i .formed) f one) (omega (arith, s .most, i .low, n)) w
+      within-limits (spliced t at u) (s .formed (i .within .formed) f one) (omega (arith, s .most, i .within .low, n)) w
 
   pub within-part : Shaped u → withinLimits (spliced t at u) ≡ true → Formed u × (levelsAbove t at + nesting u ≤ 64) × (length (words (spliced t at u)) ≤ 4096)
   within-part h e =
       let s = splice-nests t at l u in
-      let n = limits-within (spliced t at u) (splice-keeps t at l u .shaped (formed-shaped t (i .formed)) h one) e in
+      let n = limits-within (spliced t at u) (splice-keeps t at l u .shaped (formed-shaped t (i .within .formed)) h one) e in
       (s .new (n .0), omega (arith, s .least, n .1), n .2)
 
 -- ---- where its ids are within the limit, checking its words judges the rest

@@ -12,11 +12,10 @@ use Rattle.term.proofs.Laws.{never, tree-good}
 use Rattle.book.specs.Book.{checkBook}
 use Rattle.book.proofs.Laws.{good-accepted}
 use Rattle.fit.specs.Fit.{IsBody}
-use Rattle.fit.proofs.Laws.{tree-of}
+use Rattle.fit.proofs.Laws.{term-is-body, body-is-term, tree-of}
 use Rattle.steps.specs.Step.{Sought, Nowhere, FoundAt, Broken, lowestOffset, Stepped, Rests, Becomes, Refused, step}
 use Rattle.steps.specs.Simplify.{Run, Stopped, Ended, oneMore, budgetUsed, afterStep, simplifyBy, simplify}
 use Rattle.steps.proofs.Steps.{EndsAs, rests, used, run-is, steps-term}
-use Rattle.steps.proofs.Demand.{term-row, row-term}
 
 module _ (book table : List ℕ) where
   -- ---- where no offset has a rule, simplifying makes no step
@@ -69,7 +68,7 @@ module _ (book : List ℕ) (accepted : checkBook book ≡ Good) (table : List �
   simplify-is budget ws i = rw (good-accepted book accepted, tree-good termLimits ws i, tree-of termLimits ws i)
 
   simplify-words : (budget : ℕ) (v : Row) → IsBody v → simplify book table budget (words v) ≡ simplifyBy book table budget v
-  simplify-words budget v i = simplify-is budget (words v) (row-term v i)
+  simplify-words budget v i = simplify-is budget (words v) (body-is-term v i)
 
   module _ (budget n : ℕ) (a : Answer) (v : Row) (ws : List ℕ) (i : IsTerm ws) (e : simplify book table budget ws ≡ Ended n a v) where
     by-row : simplifyBy book table budget (i .tree) ≡ Ended n a v
@@ -77,7 +76,7 @@ module _ (book : List ℕ) (accepted : checkBook book ≡ Good) (table : List �
 
     -- what is simplified is a term
     pub result-term : IsBody v
-    result-term = steps-term book table accepted n (i .tree) v (term-row ws i) ((rw by-row at (run-is book table budget (i .tree))) .0)
+    result-term = steps-term book table accepted n (i .tree) v (term-is-body ws i) ((rw by-row at (run-is book table budget (i .tree))) .0)
 
     -- simplifying it again makes no step
     pub simplify-again : a ≡ Done → (more : ℕ) → simplify book table more (words v) ≡ Ended 0 Done v

@@ -80,14 +80,14 @@ module _ (book : List ℕ) (accepted : checkBook book ≡ Good) (table ws : List
     unfolding splicedWords
     words-are =
         let b = tree-body ws i in
-        let e : partEnd (drop at ws) ≡ length (words (partAt t at)) = rw (tree-words ws i) at (part-end t at inside (b .formed) (b .few) (b .low)) in
+        let e : partEnd (drop at ws) ≡ length (words (partAt t at)) = rw (tree-words ws i) at (part-end t at inside (b .within .formed) (b .within .few) (b .within .low)) in
         let s = rw (tree-words ws i) at (spliced-words t at inside u) in
         rw e (sym s)
 
     new-within : check termLimits (words v) ≡ Good → withinLimits u ≡ true → withinLimits v ≡ true
     new-within g e =
         let n = limits-within u (writes .shaped) e in
-        check-within v (splice-nests t at inside u .formed (tree-body ws i .formed) (n .0) (writes .one)) (splice-keeps t at inside u .wide (writes .one) ∙ tree-body ws i .one) g
+        check-within v (splice-nests t at inside u .formed (tree-body ws i .within .formed) (n .0) (writes .one)) (splice-keeps t at inside u .wide (writes .one) ∙ tree-body ws i .one) g
 
     new-over : (check termLimits (words v) ≡ Good → ⊥) → withinLimits v ≡ false
     new-over n = go (withinLimits v) refl
@@ -95,7 +95,7 @@ module _ (book : List ℕ) (accepted : checkBook book ≡ Good) (table ws : List
         go : (b : Bool) → withinLimits v ≡ b → withinLimits v ≡ false
         go true e =
             let s = splice-keeps t at inside u in
-            absurd (n (within-check v (s .shaped (formed-shaped t (tree-body ws i .formed)) (writes .shaped) (writes .one)) (s .wide (writes .one) ∙ tree-body ws i .one) (omega (arith, s .few, tree-body ws i .few, writes .few)) e))
+            absurd (n (within-check v (s .shaped (formed-shaped t (tree-body ws i .within .formed)) (writes .shaped) (writes .one)) (s .wide (writes .one) ∙ tree-body ws i .one) (omega (arith, s .few, tree-body ws i .within .few, writes .few)) e))
         go false e = e
 
     part-short : length (words u) ≤ length (words v)

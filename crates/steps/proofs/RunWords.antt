@@ -15,10 +15,9 @@ use Rattle.term.proofs.Laws.{good-tree, padded-fits}
 use Rattle.book.specs.Book.{checkBook}
 use Rattle.book.specs.Accept.{accept}
 use Rattle.book.proofs.Laws.{good-accepted, bad-refused}
-use Rattle.fit.proofs.Laws.{tree-of}
+use Rattle.fit.proofs.Laws.{term-is-body, body-is-term, tree-of}
 use Rattle.steps.specs.Simplify.{Run, Stopped, Ended, runWithTerm, runWithBook, simplifyBy, simplify, simplifyAnswer, simplifyWords}
 use Rattle.steps.proofs.Steps.{EndsAs, rests, used, StopsAs, broken, over, RunIs, run-is, steps-term}
-use Rattle.steps.proofs.Demand.{term-row, row-term}
 
 abbrev pub RunGives : ℕ → Run → Type 0
 RunGives room (Stopped n a) = (simplifyAnswer room (Stopped n a) ≡ a) × (10 ≤ numberOf a)
@@ -46,8 +45,8 @@ module _ (book table : List ℕ) where
     run-gives : (r : Run) → RunIs book table budget (i .tree) r → RunGives room r
     run-gives (Stopped n a) r = stopped-gives room n a (stops-refused budget n (r .0) a (r .3))
     run-gives (Ended n a v) r =
-        let b = steps-term book table accepted n (i .tree) v (term-row ws i) (r .0) in
-        ended-gives room n a v (ends-given budget n v a (r .2)) (row-term v b) (omega (arith, b .short))
+        let b = steps-term book table accepted n (i .tree) v (term-is-body ws i) (r .0) in
+        ended-gives room n a v (ends-given budget n v a (r .2)) (body-is-term v b) (omega (arith, b .within .short))
 
   pub simplify-gives : (room : ℕ) → 4096 ≤ room → (budget : ℕ) (ws : List ℕ) → RunGives room (simplify book table budget ws)
   unfolding simplify

@@ -19,7 +19,7 @@ use Rattle.book.specs.declared.accept.Accepted.the-variants as accepted
 use Rattle.book.specs.Accept.{accept}
 use Rattle.book.specs.Book.{checkBook}
 use Rattle.fit.specs.Match.{treeOf}
-use Rattle.fit.proofs.Laws.{tree-of}
+use Rattle.fit.proofs.Laws.{body-is-term, tree-of}
 use Rattle.steps.specs.Step.{Sought, Nowhere, FoundAt, Broken, lowestOffset, Stepped, Rests, Becomes, Refused, step}
 use Rattle.steps.specs.Simplify.{Run, Stopped, Ended, oneMore, budgetUsed, afterStep, simplifyBy, runWithTerm, runWithBook, simplify, simplifyAnswer, simplifyWords, simplifySteps}
 use Rattle.steps.specs.declared.simplify.Lowest.the-variants as lowest
@@ -29,7 +29,6 @@ use Rattle.steps.specs.declared.simplify.Simplified.{Simplified}
 use Rattle.steps.specs.told.Operations.{asked, givenAnswer, LowestTold, MoveTold, RanTold, countedFrom, lookedAfter}
 use Rattle.steps.proofs.Asked.{sound-book, sound-term}
 use Rattle.steps.proofs.Steps.{step-term}
-use Rattle.steps.proofs.Demand.{row-term}
 use Rattle.steps.proofs.Seeks.{tree-body, tree-words}
 
 -- ---- steps counted
@@ -143,8 +142,8 @@ module _ (book : List ℕ) (accepted : checkBook book ≡ Good) (table : List �
               let z : moved.To n ≡ moved.To (m .0) = m .1 in
               let y : n ≡ m .0 = cc in
               let w : take n after ≡ words u = rw y (m .3) in
-              let i : IsTerm (take n after) = rw w (row-term u (step-term book accepted table t u (tree-body (take size area) (run .term)) e)) in
-              let q : treeOf (take n after) ≡ u = ap treeOf w ∙ tree-of termLimits (words u) (row-term u (step-term book accepted table t u (tree-body (take size area) (run .term)) e)) in
+              let i : IsTerm (take n after) = rw w (body-is-term u (step-term book accepted table t u (tree-body (take size area) (run .term)) e)) in
+              let q : treeOf (take n after) ≡ u = ap treeOf w ∙ tree-of termLimits (words u) (body-is-term u (step-term book accepted table t u (tree-body (take size area) (run .term)) e)) in
               let k : budget - (left - 1) ≡ budget - left + 1 = omega (arith, some-left, run .below) in
               record {
                 long = long ∙ run .long;

@@ -9,7 +9,7 @@ use Rattle.term.specs.Check.{IsTerm, termLimits}
 use Rattle.term.proofs.Laws.{never}
 use Rattle.fit.specs.Fit.{IsBody}
 use Rattle.fit.specs.Match.{treeOf}
-use Rattle.fit.proofs.Laws.{tree-of}
+use Rattle.fit.proofs.Laws.{term-is-body, tree-of}
 use Rattle.walk.specs.Walk.{Walked, NoneFits, RuleFits, DamagedAt, walk, bookFits}
 use Rattle.walk.specs.told.State.{partFrom}
 use Rattle.walk.specs.told.WithBook.{bookWalk}
@@ -20,12 +20,11 @@ use Rattle.steps.specs.declared.rules.Rewrote.the-variants as rewrote
 use Rattle.steps.specs.declared.simplify.Lowest.the-variants as lowest
 use Rattle.steps.specs.told.Operations.{RewriteTold, LowestTold}
 use Rattle.steps.proofs.Offsets as offsets
-use Rattle.steps.proofs.Demand.{term-row}
 
 -- ---- a term's words and its tree
 module _ (ws : List ℕ) (i : IsTerm ws) where
   pub tree-body : IsBody (treeOf ws)
-  tree-body = rw (tree-of termLimits ws i) (term-row ws i)
+  tree-body = rw (tree-of termLimits ws i) (term-is-body ws i)
 
   pub tree-words : words (treeOf ws) ≡ ws
   tree-words = ap words (tree-of termLimits ws i) ∙ sym (i .same)
@@ -35,7 +34,7 @@ module _ (ws : List ℕ) (i : IsTerm ws) where
       let t = treeOf ws in
       let b = tree-body in
       let k : at < length (words t) = rw tree-words l in
-      let s = rw tree-words at (offsets.part-stands t at k (b .formed) (b .few) (b .low)) in
+      let s = rw tree-words at (offsets.part-stands t at k (b .within .formed) (b .within .few) (b .within .low)) in
       from-stands (drop at ws) 0 (partAt t at) _ (omega (arith, length-drop at ws, i .short)) s
 
 -- ---- what one offset tells

@@ -19,7 +19,7 @@ use Rattle.fit.specs.Fit.{IsBody}
 use Rattle.fit.specs.Match.{treeOf, leftIn}
 use Rattle.fit.specs.Lowest.{Fitting}
 use Rattle.fit.specs.Build.{withinLimits}
-use Rattle.fit.proofs.Laws.{WithinTerm, unique, accepted-good, LowestIs, LowestFits, lowest-none, lowest-some}
+use Rattle.fit.proofs.Laws.{unique, accepted-good, LowestIs, LowestFits, lowest-none, lowest-some}
 use Rattle.steps.specs.Right.{replaced, inBody, writtenTree, write}
 use Rattle.steps.specs.told.Told.{RightHead, RightRow}
 use Rattle.steps.specs.Rewrite.{rightIn, rewritten}
@@ -59,9 +59,6 @@ equal-numbers n m a b = go (ltb n m) (ltb m n) refl refl
 module _ (book : List ℕ) (accepted : checkBook book ≡ Good) where
   -- ---- the lowest rule that fits a term, and its bodies, are the only ones
   module _ (p : Row) (i : IsBody p) (f g : Fitting) (a : LowestFits book 0 (getD book 0 0) p f) (c : LowestFits book 0 (getD book 0 0) p g) where
-    within : WithinTerm p
-    within = record { formed = i .formed; few = i .few; low = i .low; short = i .short }
-
     same-number : f .number ≡ g .number
     same-number =
         equal-numbers (f .number) (g .number)
@@ -73,7 +70,7 @@ module _ (book : List ℕ) (accepted : checkBook book ≡ Good) where
 
     same-bodies : (x : ℕ) → x < a .rule .vars → f .bodies x ≡ g .bodies x
     same-bodies x h =
-        unique (a .rule .vars) (leftIn (a .rule)) (accepted-good book accepted (f .number) (a .rule) (a .found)) p within (i .one) (f .bodies) (g .bodies) (a .fits)
+        unique (a .rule .vars) (leftIn (a .rule)) (accepted-good book accepted (f .number) (a .rule) (a .found)) p (i .within) (i .one) (f .bodies) (g .bodies) (a .fits)
         (rw same-rule (c .fits)) x h
 
     pub same-written : rewritten book f ≡ rewritten book g

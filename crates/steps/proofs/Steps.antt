@@ -82,7 +82,11 @@ part-term t i at l =
     let s = split t at l in
     let n : length (words t) ≡ length (s .before) + (length (words (partAt t at)) + length (s .after)) =
     ap length (s .whole) ∙ length-append (s .before) (words (partAt t at) ++ s .after) ∙ ap (λ (n : ℕ). length (s .before) + n) (length-append (words (partAt t at)) (s .after)) in
-    record { one = p .one; formed = p .formed (i .formed); few = omega (arith, p .few, i .few); low = omega (arith, p .low, i .low); short = omega (arith, n, i .short) }
+    let w = i .within in
+    record {
+      one = p .one;
+      within = record { formed = p .formed (w .formed); few = omega (arith, p .few, w .few); low = omega (arith, p .low, w .low); short = omega (arith, n, w .short) };
+    }
 
 module _ (book : List ℕ) (accepted : checkBook book ≡ Good) (table : List ℕ) where
   -- ---- what a rule that is found writes is one term, but for its limits
@@ -100,8 +104,8 @@ module _ (book : List ℕ) (accepted : checkBook book ≡ Good) (table : List �
       rw e
       (record {
         one = width-written (rule .vars) (f .bodies) w k 0 (treeOf (rule .right)) (r .0) ∙ r .1;
-        few = few-written (rule .vars) (f .bodies) w k (λ x h. b x h .few) 0 (treeOf (rule .right)) (r .0);
-        shaped = shaped-written (rule .vars) (f .bodies) w k (λ x h. b x h .formed) 0 (treeOf (rule .right)) (r .0);
+        few = few-written (rule .vars) (f .bodies) w k (λ x h. b x h .within .few) 0 (treeOf (rule .right)) (r .0);
+        shaped = shaped-written (rule .vars) (f .bodies) w k (λ x h. b x h .within .formed) 0 (treeOf (rule .right)) (r .0);
       })
 
   pub found-writes : (p : Row) → IsBody p → (f : Fitting) (n : ℕ) → walk (bookFits book) table p ≡ RuleFits f n → Wrote (rewritten book f)
@@ -119,8 +123,11 @@ module _ (book : List ℕ) (accepted : checkBook book ≡ Good) (table : List �
   pub spliced-term : (t : Row) → IsBody t → (at : ℕ) → at < length (words t) → (u : Row) → Wrote u → withinLimits (spliced t at u) ≡ true → IsBody (spliced t at u)
   spliced-term t i at l u w e =
       let k = splice-keeps t at l u in
-      let n = limits-within (spliced t at u) (k .shaped (formed-shaped t (i .formed)) (w .shaped) (w .one)) e in
-      record { one = k .wide (w .one) ∙ i .one; formed = n .0; few = omega (arith, k .few, i .few, w .few); low = n .1; short = n .2 }
+      let n = limits-within (spliced t at u) (k .shaped (formed-shaped t (i .within .formed)) (w .shaped) (w .one)) e in
+      record {
+        one = k .wide (w .one) ∙ i .one;
+        within = record { formed = n .0; few = omega (arith, k .few, i .within .few, w .few); low = n .1; short = n .2 };
+      }
 
   step-leaves : (t : Row) → IsBody t → (s : Sought) → SeekIs (walk (bookFits book) table) t 0 (length (words t)) s → LeavesTerm (stepFound book t s)
   unfolding wholeWithin

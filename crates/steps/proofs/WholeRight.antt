@@ -37,5 +37,5 @@ unfolding RightWritten RightTold
 right-written right bodies lengths out done r told vars k b p good one low same g =
     let s : RightStands vars k 0 1 right 0 p [] = record { good = good; low = omega (arith, low); wide = one; same = sym same ∙ sym (append-nil (words p)) } in
     let e : writtenIn b 0 (idsIn (atRoot 64)) p ≡ write b 0 p = ap (λ (ids : List ℕ). writtenIn b 0 ids p) root-ids ∙ written-root b p in
-    within-told out done (write b 0 p) (shaped-written vars b (λ x h. g .body x h .one) k (λ x h. g .body x h .formed) 0 p good) r
+    within-told out done (write b 0 p) (shaped-written vars b (λ x h. g .body x h .one) k (λ x h. g .body x h .within .formed) 0 p good) r
     (rw e at (told vars k b p [] s g (omega arith)))

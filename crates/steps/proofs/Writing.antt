@@ -18,10 +18,10 @@ use Rattle.book.specs.told.Occurs.{belowHead, belowVars}
 use Rattle.book.specs.Book.{Rule, checkBook, ruleAt}
 use Rattle.book.proofs.Laws.{ids-nothing, ids-node, left-symbol, left-abstraction, left-variable, left-pattern, below-node, RuleFacts, book-rule}
 use Rattle.fit.specs.Left.{idsOr, leftOf}
-use Rattle.fit.specs.Fit.{build, matching}
+use Rattle.fit.specs.Fit.{WithinTerm, build, matching}
 use Rattle.fit.specs.Match.{treeOf, leftIn}
 use Rattle.fit.specs.Constraint.{tree}
-use Rattle.fit.proofs.Laws.{tree-first, tree-later, left-of-nothing, left-of-symbol, left-of-abstraction, left-of-pattern, left-in, tree-of, build-end, build-hole, build-part, WithinTerm, sound, matched-built, accepted-good}
+use Rattle.fit.proofs.Laws.{tree-first, tree-later, left-of-nothing, left-of-symbol, left-of-abstraction, left-of-pattern, left-in, tree-of, build-end, build-hole, build-part, sound, matched-built, accepted-good}
 use Rattle.steps.specs.Right.{shifted, single, replaced, inBody, writtenTree, write}
 use Rattle.steps.proofs.Replaced.{tree-before, none-wide, renumber-single, replaced-same, replaced-single}
 
@@ -234,4 +234,4 @@ module _ (book : List ℕ) (accepted : checkBook book ≡ Good) (number : ℕ) (
   match-written t w b e =
       let g = accepted-good book accepted number rule found in
       let s = sound (rule .vars) (leftIn rule) g t w b e in
-      left-written b (λ x h. s .bodies x h .formed) ∙ matched-built (rule .vars) (leftIn rule) (g .good) t w b e
+      left-written b (λ x h. s .bodies x h .within .formed) ∙ matched-built (rule .vars) (leftIn rule) (g .good) t w b e
