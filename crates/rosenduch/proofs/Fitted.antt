@@ -13,13 +13,10 @@ use Rattle.book.proofs.Laws.{rule-number}
 use Rattle.fit.specs.Fit.{IsBody}
 use Rattle.fit.specs.Match.{leftIn}
 use Rattle.fit.specs.Lowest.{Fitting}
-use Rattle.fit.proofs.Laws.{WithinTerm, unique, accepted-good, LowestIs, LowestFits, lowest-none, lowest-some}
+use Rattle.fit.proofs.Laws.{unique, accepted-good, LowestIs, LowestFits, lowest-none, lowest-some}
 use Rattle.walk.specs.Demand.{NothingFits, LowestFit, OnlyBodies}
 
 module _ (book : List ℕ) (accepted : checkBook book ≡ Good) (t : Row) (i : IsBody t) where
-  within : WithinTerm t
-  within = record { formed = i .formed; few = i .few; low = i .low; short = i .short }
-
   pub nothing-fits : LowestIs book 0 (getD book 0 0) t none → NothingFits book (words t)
   nothing-fits l number rule q b f = lowest-none book 0 (getD book 0 0) t l number (omega arith) (rule-number book number rule q) rule q b f
 
@@ -37,7 +34,7 @@ module _ (book : List ℕ) (accepted : checkBook book ≡ Good) (t : Row) (i : I
       )
 
   pub only-bodies : (number : ℕ) (rule : Rule) (b : ℕ → Row) → LowestFit book (words t) number rule b → OnlyBodies (words t) rule b
-  only-bodies number rule b low c g x h = unique (rule .vars) (leftIn rule) (accepted-good book accepted number rule (low .is)) t within (i .one) c b g (low .fits) x h
+  only-bodies number rule b low c g x h = unique (rule .vars) (leftIn rule) (accepted-good book accepted number rule (low .is)) t (i .within) (i .one) c b g (low .fits) x h
 
 -- ---- two that are the lowest are one
 module _ (book ws : List ℕ) (n m : ℕ) (rule other : Rule) (b c : ℕ → Row) (low : LowestFit book ws n rule b) (also : LowestFit book ws m other c) where

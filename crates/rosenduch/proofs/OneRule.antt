@@ -18,10 +18,10 @@ use Rattle.term.specs.Row.{Row, words}
 use Rattle.term.specs.Check.{IsTerm, termLimits}
 use Rattle.term.proofs.Laws.{tree-good, padded-fits, answered-same}
 use Rattle.book.specs.Book.{Rule, checkBook, ruleAt}
-use Rattle.fit.specs.Fit.{build, IsBody, Fits, matching}
+use Rattle.fit.specs.Fit.{build, WithinTerm, IsBody, Fits, matching}
 use Rattle.fit.specs.Match.{leftIn, bodyList, lengthList, GivesBodies, fittedO, matchRule, matchAnswer, matchWords, matchLengths, MatchRuleOutcome, matchedCame, matchRuleGives}
 use Rattle.fit.specs.Build.{withinLimits, Built, refused, built, limited, buildLeft, buildAnswer, buildWords, BuildLeftOutcome, buildLeftGives}
-use Rattle.fit.proofs.Laws.{WithinTerm, GoodRule, sound, unique, none-fits, tree-of, accepted-good, refused-answer, fitted-room, fitted-short, same-bodies, limited-is, refused-built, built-built, match-one-rule, build-given as build-of, build-match, match-build}
+use Rattle.fit.proofs.Laws.{tree-within, GoodRule, sound, unique, none-fits, tree-of, accepted-good, refused-answer, fitted-room, fitted-short, same-bodies, limited-is, refused-built, built-built, match-one-rule, build-given as build-of, build-match, match-build}
 use Rattle.walk.specs.Demand.{OnlyBodies}
 use Rattle.rosenduch.specs.Steps.{Leaves}
 use Rattle.rosenduch.specs.Demands.{MatchesRule, Written}
@@ -46,7 +46,7 @@ module _ (said : Answered) where
 
 module _ (book : List ℕ) (number : ℕ) (rule : Rule) (term : List ℕ) (accepted : checkBook book ≡ Good) (found : ruleAt book number ≡ some rule) (i : IsTerm term) where
   within : WithinTerm (i .tree)
-  within = record { formed = i .formed; few = i .few; low = i .low; short = rw (← i .same) (i .short) }
+  within = tree-within term i
 
   good-rule : GoodRule (rule .vars) (leftIn rule)
   good-rule = accepted-good book accepted number rule found

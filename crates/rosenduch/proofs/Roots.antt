@@ -15,7 +15,7 @@ use Rattle.fit.specs.Fit.{IsBody}
 use Rattle.fit.specs.Match.{treeOf}
 use Rattle.fit.specs.Lowest.{Fitting, lowest}
 use Rattle.fit.specs.Build.{Built, refused, limited, buildAnswer, buildWords}
-use Rattle.fit.proofs.Laws.{LowestIs, book-lowest, refused-built}
+use Rattle.fit.proofs.Laws.{term-is-body, LowestIs, book-lowest, refused-built}
 use Rattle.tree.proofs.Laws.{varsIn}
 use Rattle.walk.specs.Walk.{Walked, NoneFits, RuleFits, walk, bookFits}
 use Rattle.walk.specs.Demand.{NothingFits, LowestFit, OnlyBodies}
@@ -41,7 +41,7 @@ module _ (book tree term : List ℕ) (room : ℕ) (o : RewriteRootOutcome) (p : 
 -- ---- by the compiled tree
 module _ (ops : Operations) (kept : Promised ops) (book tree term : List ℕ) (k : CompiledTree ops book tree) (i : IsTerm term) where
   body : IsBody (i .tree)
-  body = record { one = i .one; formed = i .formed; few = i .few; low = i .low; short = rw (i .same) at (i .short) }
+  body = term-is-body term i
 
   -- of the tree's words, and of the words given
   of-words : (number : ℕ) (rule : Rule) (b : ℕ → Row) → LowestFit book (words (i .tree)) number rule b → LowestFit book term number rule b

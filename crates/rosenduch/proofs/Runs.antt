@@ -22,7 +22,7 @@ use Rattle.book.specs.Book.{checkBook}
 use Rattle.fit.specs.Fit.{IsBody}
 use Rattle.fit.specs.Match.{treeOf}
 use Rattle.fit.specs.Build.{withinLimits}
-use Rattle.fit.proofs.Laws.{tree-of}
+use Rattle.fit.proofs.Laws.{term-is-body, tree-of}
 use Rattle.steps.specs.Rewrite.{rewritten}
 use Rattle.steps.specs.Offset.{partAt, spliced}
 use Rattle.steps.specs.Step.{Nowhere, FoundAt, lowestOffset, Becomes}
@@ -184,4 +184,4 @@ module _ (ops : Operations) (kept : Promised ops) (book tree : List ℕ) (k : Co
       record { last = x .last; counted = l .0; within = x .within; gives = gives-fit budget room (x .last) o (l .1) (x .gives) }
     where
       term-body : (ws : List ℕ) → IsTerm ws → IsBody (treeOf ws)
-      term-body ws j = rw (tree-of termLimits ws j) (record { one = j .one; formed = j .formed; few = j .few; low = j .low; short = rw (j .same) at (j .short) })
+      term-body ws j = rw (tree-of termLimits ws j) (term-is-body ws j)
