@@ -31,39 +31,39 @@ body-is-term b i =
     let w = i .within in
     record { tree = b; one = i .one; formed = w .formed; few = w .few; low = w .low; short = w .short; same = refl }
 
+-- the rows and the first tree of a row within a term
+long-node : (h : Head) (kids rest : Row) → length (words (node h kids rest)) ≡ suc (length (words kids) + length (words rest))
+long-node h kids rest = ap length (words-node h kids rest) ∙ ap suc (length-append (words kids) (words rest))
+
 pub kids-within : (h : Head) (kids rest : Row) → WithinTerm (node h kids rest) → WithinTerm kids
 kids-within h kids rest w =
     let n = formed-node h kids rest (w .formed) in
-    let l : length (words (node h kids rest)) ≡ suc (length (words kids) + length (words rest)) = ap length (words-node h kids rest) ∙ ap suc (length-append (words kids) (words rest)) in
     record {
       formed = n .below;
       few = omega (arith, ranks-node h kids rest, w .few);
       low = omega (arith, nesting-node h kids rest, w .low);
-      short = omega (arith, l, w .short);
+      short = omega (arith, long-node h kids rest, w .short);
     }
 
 pub rest-within : (h : Head) (kids rest : Row) → WithinTerm (node h kids rest) → WithinTerm rest
 rest-within h kids rest w =
     let n = formed-node h kids rest (w .formed) in
-    let l : length (words (node h kids rest)) ≡ suc (length (words kids) + length (words rest)) = ap length (words-node h kids rest) ∙ ap suc (length-append (words kids) (words rest)) in
     record {
       formed = n .beside;
       few = omega (arith, ranks-node h kids rest, w .few);
       low = omega (arith, nesting-node h kids rest, w .low);
-      short = omega (arith, l, w .short);
+      short = omega (arith, long-node h kids rest, w .short);
     }
 
 pub first-within : (h : Head) (kids rest : Row) → WithinTerm (node h kids rest) → WithinTerm (node h kids nothing)
 first-within h kids rest w =
     let n = formed-node h kids rest (w .formed) in
-    let l : length (words (node h kids rest)) ≡ suc (length (words kids) + length (words rest)) = ap length (words-node h kids rest) ∙ ap suc (length-append (words kids) (words rest)) in
-    let k : length (words (node h kids nothing)) ≡ suc (length (words kids) + length (words nothing)) = ap length (words-node h kids nothing) ∙ ap suc (length-append (words kids) (words nothing)) in
     let z : length (words nothing) ≡ 0 = ap length words-nothing in
     record {
       formed = node-formed h kids nothing (record { table = n .table; full = n .full; below = n .below; beside = formed-nothing });
       few = omega (arith, ranks-node h kids rest, ranks-node h kids nothing, ranks-nothing, w .few);
       low = omega (arith, nesting-node h kids rest, nesting-node h kids nothing, nesting-nothing, w .low);
-      short = omega (arith, l, k, z, w .short);
+      short = omega (arith, long-node h kids rest, long-node h kids nothing, z, w .short);
     }
 
 -- ---- what is found in a term is bodies

@@ -18,7 +18,7 @@ build b d end = nothing
 build b d (hole x ys rest) = toTerm d ys (b x) ⧺ build b d rest
 build b d (part h kids rest) = node h (build b (inside h d) kids) (build b d rest)
 
--- "A term has kinds 0 to 2, 1 to 4,096 words, nesting at most 64", of a row of so many trees as there are
+-- what any row of a term keeps to, however many trees it has: "kinds 0 to 2", no more than 4,096 words, "nesting at most 64"
 pub record WithinTerm (t : Row) : Type 0 where
   pub formed : Formed t
   pub few : ranks t ≤ 2
