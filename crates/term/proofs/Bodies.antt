@@ -11,7 +11,7 @@ use lib.ListN.{length, getD}
 use borrow.Author.Tests.{leb-true, leb-false, le-leb, lt-leb}
 use Rattle.term.specs.Word.{pick}
 use Rattle.term.specs.Row.{Row, width, words, nesting, ranks, Formed}
-use Rattle.term.specs.Renumber.{position, Listed, GoodList, SameSet, three, idTerm, parameter, idBody, renumber, named, toTerm, closed, toBody, within, idTermWithin, idsWithin}
+use Rattle.term.specs.Renumber.{position, Listed, GoodList, three, idTerm, parameter, idBody, renumber, named, toTerm, closed, toBody, within, idTermWithin, idsWithin}
 use Rattle.term.proofs.Words.{never}
 use Rattle.term.proofs.Lists.{position-is, position-at, listed-range, at-most, all-there}
 use Rattle.term.proofs.Renumbers.{Every, implied, both, everywhere, shallow, agree, unmoved, twice, named-true, true-named, every-renumber, IsId, formed-ids, formed-renumber, formed-renumbered, width-renumber, length-renumber, nesting-renumber, ranks-renumber}
@@ -240,6 +240,11 @@ module _ (d : ℕ) (ys : List ℕ) where
           go (own h) = rw (body-own d ys e i h) (o .0)
           go (inner h g) = rw (body-inner d ys e i h g) (at-position (position (i - e) ys) (all-there d ys l k (i - e) (omega arith) (omega arith)))
           go (outside h g) = rw (body-outside d ys e i g) (omega arith)
+
+-- two lists are the same as sets
+pub record SameSet (ys zs : List ℕ) : Type 0 where
+  pub there : (y : ℕ) → 1 ≤ position y ys → 1 ≤ position y zs
+  pub back : (y : ℕ) → 1 ≤ position y zs → 1 ≤ position y ys
 
 -- closedness goes by the list as a set
 module _ (d : ℕ) (ys zs : List ℕ) where

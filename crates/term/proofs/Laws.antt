@@ -27,7 +27,7 @@ pub use Rattle.term.proofs.Bodies.{body-term, term-body}
 -- A body is formed, as long and as deep as its part; a term of a body too, and formed just where no id passes 65,535.
 pub use Rattle.term.proofs.Bodies.{Keeps, body-keeps, term-keeps, body-formed, within-formed, formed-within}
 -- A part has a body just where it is closed; closedness goes by the list as a set, and always holds where k = d.
-pub use Rattle.term.proofs.Bodies.{body-is, closed-body, open-body, closed-set, closed-all}
+pub use Rattle.term.proofs.Bodies.{body-is, closed-body, open-body, SameSet, closed-set, closed-all}
 -- The operations' words: what a body of a part is, and that two parts are the same just where their bodies are.
 pub use Rattle.term.proofs.Answers.{BodyIs, body-of, of-body, body-stands, body-tree, part-body, same-bodies, same-by-words, bodies-same}
 pub use Rattle.term.proofs.Answers.{is-some, is-none, some-is, none-is}

@@ -10,7 +10,7 @@ use native.Mathlib.Numerals.{add-one}
 use lib.ListN.{length, getD, take, drop, length-drop, drop-of-length-le}
 use lib.Seq.{drop-cons, take-all}
 use borrow.Author.Tests.{eqb-true, eqb-false, leb-true, eq-eqb, ne-eqb, le-leb, lt-leb}
-use Rattle.term.specs.Renumber.{position, positionB, Listed, GoodList, SameSet, listed, goodList}
+use Rattle.term.specs.Renumber.{position, positionB, Listed, GoodList, listed, goodList}
 use Rattle.term.proofs.Words.{never, and-left, and-right, and-both}
 
 -- a position that is there

@@ -37,11 +37,6 @@ listed d (y ∷ ys) = (leb 1 y && leb y d) && (eqb (position y ys) 0 && listed d
 unfoldable pub goodList : ℕ → List ℕ → Bool
 goodList d ys = leb (length ys) 4 && listed d ys
 
--- two lists are the same as sets
-pub record SameSet (ys zs : List ℕ) : Type 0 where
-  pub there : (y : ℕ) → 1 ≤ position y ys → 1 ≤ position y zs
-  pub back : (y : ℕ) → 1 ≤ position y zs → 1 ≤ position y ys
-
 -- the three cases of an id: one's own, a parameter or an abstraction passed, outside
 abbrev pub three : Bool → Bool → ℕ → ℕ → ℕ → ℕ
 three true b own inner outside = own

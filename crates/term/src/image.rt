@@ -13,13 +13,13 @@ use crate::renumber::inside_word;
 use crate::word::KIND;
 use crate::word::TERM_RANK;
 use crate::word::VARIABLE;
+use crate::word::VARIABLE_ID;
 use crate::word::VARIABLE_RANK;
 use crate::word::count_of;
 use crate::word::id_of;
 use crate::word::table_rank;
 
-// No variable has a larger id.
-const MOST_ID: u64 = 65535;
+const MOST_ID: u64 = VARIABLE_ID as u64;
 
 pub enum Way {
     ToBody,

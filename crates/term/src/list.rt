@@ -1,9 +1,10 @@
 // The list of a pattern variable: distinct ids within 1..d.
 ghost use mathlib.Core.Path.{_≡_};
 ghost use Rattle.term.specs.Renumber.{position, goodList};
+use crate::word::PATTERN_COUNT;
 
 // A list has at most so many ids.
-pub const MOST_IDS: usize = 4;
+pub const MOST_IDS: usize = PATTERN_COUNT as usize;
 
 // Which j has list[j - 1] == y, counted from 1; 0 where none has.
 pub fn position_of(y: u32, list: &[u32]) -> usize

@@ -17,6 +17,17 @@ pub const VARIABLE: u32 = 2;
 
 pub const PATTERN: u32 = 3;
 
+// The largest ids and counts of the table: of symbols, variables and pattern variables.
+pub const SYMBOL_ID: u32 = 1023;
+
+pub const SYMBOL_COUNT: u32 = 15;
+
+pub const VARIABLE_ID: u32 = 65535;
+
+pub const PATTERN_ID: u32 = 15;
+
+pub const PATTERN_COUNT: u32 = 4;
+
 // Where a word of the table may stand, in order.
 pub const SYMBOL_RANK: u32 = 0;
 
@@ -57,8 +68,8 @@ fn rank_with(k: u32, c: u32, i: u32) -> u32
     ensures { λ r. ⌜ r ≡ rankOr 4 (headWith k c i) ⌝ }
 {
     if k == SYMBOL {
-        if c <= 15 {
-            if i <= 1023 {
+        if c <= SYMBOL_COUNT {
+            if i <= SYMBOL_ID {
                 return SYMBOL_RANK;
             }
         }
@@ -81,8 +92,8 @@ fn rank_with(k: u32, c: u32, i: u32) -> u32
         return NO_RANK;
     }
     if k == PATTERN {
-        if c <= 4 {
-            if i <= 15 {
+        if c <= PATTERN_COUNT {
+            if i <= PATTERN_ID {
                 return PATTERN_RANK;
             }
         }

@@ -9,9 +9,9 @@ use lib.ListN.{length, getD}
 use borrow.Author.Tests.{eqb-true, eq-eqb}
 use Rattle.term.specs.Word.{pick}
 use Rattle.term.specs.Row.{Row, nothing, node}
-use Rattle.term.specs.Renumber.{position, Listed, GoodList, SameSet, inside, closed, toBody}
+use Rattle.term.specs.Renumber.{position, Listed, GoodList, inside, closed, toBody}
 use Rattle.term.specs.Part.{isSome, sameWords, sameO}
-use Rattle.term.proofs.Laws.{never, and-left, and-right, and-both, same-words, words-same, closed-set, closed-body, open-body, position-is, position-at}
+use Rattle.term.proofs.Laws.{never, and-left, and-right, and-both, same-words, words-same, SameSet, closed-set, closed-body, open-body, position-is, position-at}
 use Rattle.fit.specs.Left.{Left, end, hole, part, GoodLeft}
 use Rattle.fit.specs.Constraint.{Place, treeAt, Occurrence, occurrences, Constraint, closedAt, sameAt, bodyHere, bodyAt, holds, allHold}
 use Rattle.fit.proofs.Laws.{body-nothing, body-node, body-at, holds-closed, holds-same, all-hold-none, all-hold-more, Names, EachNames, Each, each-join, good-hole, good-part, occurrences-end, occurrences-hole, occurrences-part}
