@@ -8,15 +8,13 @@ use crate::line::Line;
 use crate::line::read_line;
 use crate::number::Number;
 use crate::number::read_number;
+use book::limits::MOST_SIDE;
 
 // The offset after a key, or none.
 pub enum Key {
     After(usize),
     None,
 }
-
-// A side has at most so many tokens.
-const MOST_TOKENS: usize = 64;
 
 // Whether a key stands at `at`.
 pub fn read_key(text: &[u8], at: usize, key: &[u8]) -> Key
@@ -66,5 +64,5 @@ pub fn read_side(text: &[u8], at: usize, key: &[u8], out: &mut [u32], to: usize)
     let Key::After(a) = read_key(text, at, key) else {
         return Line::Bad;
     };
-    read_line(text, a, MOST_TOKENS, out, to)
+    read_line(text, a, MOST_SIDE, out, to)
 }

@@ -8,11 +8,12 @@ use crate::key::read_number_line;
 use crate::key::read_side;
 use crate::line::Line;
 use crate::number::Number;
+use book::limits::MOST_RULES;
 use book::limits::MOST_VARS;
 use term::lent::put;
 
 // The last rule of a book has this number.
-const LAST_RULE: u32 = 63;
+const LAST_RULE: u32 = MOST_RULES - 1;
 
 // A rule has so many lines.
 pub const LINES: usize = 4;

@@ -15,10 +15,15 @@ use term::word::ABSTRACTION_RANK;
 use term::word::COUNT;
 use term::word::KIND;
 use term::word::PATTERN;
+use term::word::PATTERN_COUNT;
+use term::word::PATTERN_ID;
 use term::word::PATTERN_RANK;
 use term::word::SYMBOL;
+use term::word::SYMBOL_COUNT;
+use term::word::SYMBOL_ID;
 use term::word::SYMBOL_RANK;
 use term::word::VARIABLE;
+use term::word::VARIABLE_ID;
 use term::word::VARIABLE_RANK;
 use term::word::count_of;
 use term::word::id_of;
@@ -31,17 +36,6 @@ pub enum Token {
 }
 
 const DOT: u8 = b'.';
-
-// The largest ids and counts of the table: of symbols, variables and pattern variables.
-const SYMBOL_ID: u32 = 1023;
-
-const SYMBOL_COUNT: u32 = 15;
-
-const VARIABLE_ID: u32 = 65535;
-
-const PATTERN_ID: u32 = 15;
-
-const PATTERN_COUNT: u32 = 4;
 
 // The word of this kind whose id and count stand at `at`, with a dot between them.
 fn read_dotted(text: &[u8], at: usize, kind: u32, ids: u32, counts: u32) -> Token
