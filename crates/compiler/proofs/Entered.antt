@@ -121,7 +121,7 @@ module _ (book fixed nums marks : List ℕ) (total : ℕ) (path : OnPath) (n : �
         short = t .short;
         here = d .here;
         blank = d .blank;
-        low = t .low;
+        kinds = t .kinds;
         covered = covered r rule l g q (t .covered);
         struck = struck-kept marks after (λ k a. other-mark k (λ z. omega (arith, z, a, few-places, e .known)) (omega arith)) (path .held) _ [] (t .struck);
       }

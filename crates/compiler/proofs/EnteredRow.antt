@@ -17,13 +17,13 @@ use Rattle.tree.specs.told.Covered.{numberedAs}
 use Rattle.tree.specs.Path.{Uncovered, placeNumbered, enter}
 use Rattle.tree.specs.Rows.{sub, subsUnder, subAt, headHere, headAt}
 use Rattle.compiler.specs.told.Tables.{firstAt, isFree, spotIn, spotAt, headWord, childrenNumbered, rowNumbered}
-use Rattle.compiler.specs.told.Stands.{spread, LeftAt, BlankAt, LowWords}
+use Rattle.compiler.specs.told.Stands.{spread, LeftAt, BlankAt, HeadKinds}
 use Rattle.tree.proofs.Laws.{sub-end, from-start, subs-root, sub-child, head-sub, none-below, enter-other}
 use Rattle.compiler.proofs.Sweeps.{first-true}
-use Rattle.compiler.proofs.TableLaws.{atPlace}
+use Rattle.compiler.proofs.TableLaws.{atPlace, head-there}
 use Rattle.compiler.proofs.NumberLaws.{row-unheaded, row-numbered, headed-spot}
 use Rattle.compiler.proofs.SpotHeads.{isEnd, subWord, headOr, blank-none, at-spot, head-is-word}
-use Rattle.compiler.proofs.Strikes.{low-at, low-low, head-low}
+use Rattle.compiler.proofs.Strikes.{kinds-at, kinds-sub, head-kind}
 use Rattle.compiler.proofs.EnteredSpots.{sub-places, kept-blank, kept-left}
 use Rattle.compiler.proofs.EnteredCounts.{Counts}
 use Rattle.compiler.proofs.EnteredChildren.{Numbered, numbered-none, children-numbered}
@@ -74,12 +74,12 @@ module _ (fixed : List ℕ) (us : List Uncovered) (n c count : ℕ) where
 module _ (fixed : List ℕ) (long : length fixed ≡ 8256) (us : List Uncovered) (n c count : ℕ) (counted : length us ≡ count) (own : numberedAs (placeNumbered n us) us ≡ suc n)
     (only : (p : Place) → numberedAs p us ≡ suc n → p ≡ placeNumbered n us) (new : (j : ℕ) → numberedAs (j ∷ placeNumbered n us) us ≡ 0) (top : ℕ) (rest-place : Place) (rooted : placeNumbered n us ≡ top ∷ rest-place)
     (struck : List ℕ) (r : ℕ) (few : r < 64) (free : isFree struck r ≡ true) (left : Left) (nums : List ℕ) (spots : length nums ≡ 4096)
-    (short : spread left ≤ 64) (here : LeftAt fixed nums us (r * 64) [] 0 0 left) (blank : (more : ℕ) → spread left + more ≡ 64 → BlankAt fixed nums (r * 64 + spread left) more) (low : LowWords left) (counts : Counts left) where
+    (short : spread left ≤ 64) (here : LeftAt fixed nums us (r * 64) [] 0 0 left) (blank : (more : ℕ) → spread left + more ≡ 64 → BlankAt fixed nums (r * 64 + spread left) more) (kinds-row : HeadKinds left) (counts : Counts left) where
   abbrev P : Place
   P = placeNumbered n us
 
   head-word : headWord fixed nums r n ≡ headOr (headAt left P)
-  head-word = head-is-word fixed nums us r n left P only own here short blank few (low-low (subAt left P) (low-at left P low))
+  head-word = head-is-word fixed nums us r n left P only own here short blank few (kinds-sub (subAt left P) (kinds-at left P kinds-row))
 
   -- ---- without a head at the place
   no-child : headAt left P ≡ none → (i : ℕ) (p : Place) → isEnd (subAt left (i ∷ p)) ≡ false → numberedAs (i ∷ p) (enter n c us) ≡ numberedAs (i ∷ p) us
@@ -108,8 +108,8 @@ module _ (fixed : List ℕ) (long : length fixed ≡ 8256) (us : List Uncovered)
 
     headed : headWord fixed nums r n ≡ 33554432 → ⊥
     headed e =
-        let l = head-low (subAt left P) (low-low (subAt left P) (low-at left P low)) g (ap headHere is) in
-        omega (arith, e, head-word, ap headOr head-is, l)
+        let l = head-kind (subAt left P) (kinds-sub (subAt left P) (kinds-at left P kinds-row)) g (ap headHere is) in
+        head-there (word g) l (sym (head-word ∙ ap headOr head-is) ∙ e)
 
     module _ (o : ℕ) (inside-row : o < 64) (at : spotAt nums r n ≡ r * 64 + o) (numbered-there : getD nums (r * 64 + o) 0 ≡ suc n) where
       not-blank : o < spread left

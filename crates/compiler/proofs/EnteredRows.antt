@@ -18,15 +18,16 @@ use Rattle.fit.proofs.Laws.{accepted-good}
 use Rattle.tree.specs.told.Covered.{isOpen}
 use Rattle.tree.specs.Path.{OnPath, placeNumbered}
 use Rattle.tree.specs.Rows.{subAt, headAt}
-use Rattle.compiler.specs.told.Tables.{Changed, isFree, struckRows, hasOther, isOther, headWord, rowNumbered}
+use Rattle.compiler.specs.told.Tables.{Changed, isFree, struckRows, hasOther, isOther, headWord, rowNumbered, headKind}
 use Rattle.compiler.specs.told.Stands.{spread, RowStands, Stands}
 use Rattle.compiler.proofs.RowsLeft.{struck-free}
 use Rattle.tree.proofs.Laws.{head-headed, root-unheaded, Full, full-at, good-full, same-head}
 use Rattle.compiler.proofs.SpotHeads.{headOr}
-use Rattle.compiler.proofs.Strikes.{row-head, number-own, number-only, low-low, low-at}
+use Rattle.compiler.proofs.Strikes.{row-head, number-own, number-only, kinds-sub, kinds-at}
 use Rattle.compiler.proofs.EnteredSpots.{same-left, kept-blank}
 use Rattle.compiler.proofs.EnteredCounts.{Counts, good-counts}
 use Rattle.compiler.proofs.EnteredRow.{RowDone, row-without, row-with}
+use Rattle.compiler.proofs.TableLaws.{head-there}
 
 -- how many children a head has
 abbrev pub childCount : Head → ℕ
@@ -53,8 +54,8 @@ both-true true true e = never (cc)
 both-true true false e = (refl, refl)
 both-true false b e = never (cc)
 
-other-not : (w g : ℕ) → g < 33554432 → isOther w g ≡ false → g ≡ w
-other-not w g l e = go (eqb g w) refl (rw (ne-eqb g 33554432 (λ z. omega (arith, z, l))) at e)
+other-not : (w g : ℕ) → headKind g ≡ true → isOther w g ≡ false → g ≡ w
+other-not w g l e = go (eqb g w) refl (rw (ne-eqb g 33554432 (head-there g l)) at e)
   where
     go : (b : Bool) → eqb g w ≡ b → pick b false true ≡ false → g ≡ w
     go true q z = eqb-true g w q
@@ -88,10 +89,10 @@ module _ (book fixed nums marks : List ℕ) (total : ℕ) (path : OnPath) (n : �
       let f : Full (part h (x .kids) (x .rest)) = rw (x .is) at (full-at (leftIn (e .rule)) P (full-rule (e .row) (e .rule) (e .is))) in
       f .0
 
-  low-head : (r : ℕ) (rule : Rule) → RowStands fixed nums marks path r (rule .vars) (leftIn rule) → (g : Head) → headAt (leftIn rule) P ≡ some g → word g < 33554432
-  low-head r rule t g q =
+  kinds-head : (r : ℕ) (rule : Rule) → RowStands fixed nums marks path r (rule .vars) (leftIn rule) → (g : Head) → headAt (leftIn rule) P ≡ some g → headKind (word g) ≡ true
+  kinds-head r rule t g q =
       let x = head-headed (leftIn rule) P g q in
-      low-low (subAt (leftIn rule) P) (low-at (leftIn rule) P (t .low)) .heads g (x .kids) (x .rest) (x .is)
+      kinds-sub (subAt (leftIn rule) P) (kinds-at (leftIn rule) P (t .kinds)) .heads g (x .kids) (x .rest) (x .is)
 
   -- a row that is not struck has this head at the place, or none
   only-head : (r : ℕ) (rule : Rule) → r < 64 → isFree struck r ≡ true → ruleAt book r ≡ some rule → (g : Head) (kids other : Left) → subAt (leftIn rule) P ≡ part g kids other → headAt (leftIn rule) P ≡ some g → g ≡ h
@@ -99,7 +100,7 @@ module _ (book fixed nums marks : List ℕ) (total : ℕ) (path : OnPath) (n : �
       let b = free-before r l f in
       let w : headWord fixed nums r n ≡ word g = row-head book fixed nums marks total path (e .stands) n (e .known) r rule l (b .0) q ∙ ap headOr z in
       let y : Full (part g kids other) = rw is at (full-at (leftIn rule) P (full-rule r rule q)) in
-      same-head g h (y .0) table (other-not (word h) (word g) (low-head r rule (row-of r rule l f q) g z) (ap (isOther (word h)) (sym w) ∙ b .1))
+      same-head g h (y .0) table (other-not (word h) (word g) (kinds-head r rule (row-of r rule l f q) g z) (ap (isOther (word h)) (sym w) ∙ b .1))
 
   pub kids-count : (r : ℕ) (rule : Rule) → r < 64 → isFree struck r ≡ true → ruleAt book r ≡ some rule → (g : Head) (kids other : Left) → subAt (leftIn rule) P ≡ part g kids other → headAt (leftIn rule) P ≡ some g
       → (wide kids ≡ childCount h) × (countOf (word g) ≡ childCount h)
@@ -140,12 +141,12 @@ module _ (book fixed nums marks : List ℕ) (total : ℕ) (path : OnPath) (n : �
           row-without fixed (e .words) (path .uncovered) n (childCount h) total (e .stands .counted) (number-own book fixed nums marks total path (e .stands) n (e .known))
           (number-only book fixed nums marks total path (e .stands) n) (λ j. e .stands .new n j (e .opened)) (w .0) (w .1) (w .2) struck r l f (leftIn rule) now long (t .short)
           (same-left fixed nums now (path .uncovered) (leftIn rule) (r * 64) [] 0 0 (λ o a b. same o a) (t .here))
-          (λ more y. kept-blank fixed nums now more (r * 64 + spread (leftIn rule)) (λ o a b. same o (omega arith)) (t .blank more y)) (t .low) (counts-rule r rule (t .few) q) z
+          (λ more y. kept-blank fixed nums now more (r * 64 + spread (leftIn rule)) (λ o a b. same o (omega arith)) (t .blank more y)) (t .kinds) (counts-rule r rule (t .few) q) z
       go (some g) z t w =
           let x = head-headed (leftIn rule) P g z in
           let k = kids-count r rule l f q g (x .kids) (x .rest) (x .is) z in
           row-with fixed (e .words) (path .uncovered) n (childCount h) total (e .stands .counted) (number-own book fixed nums marks total path (e .stands) n (e .known))
           (number-only book fixed nums marks total path (e .stands) n) (λ j. e .stands .new n j (e .opened)) (w .0) (w .1) (w .2) struck r l f (leftIn rule) now long (t .short)
           (same-left fixed nums now (path .uncovered) (leftIn rule) (r * 64) [] 0 0 (λ o a b. same o a) (t .here))
-          (λ more y. kept-blank fixed nums now more (r * 64 + spread (leftIn rule)) (λ o a b. same o (omega arith)) (t .blank more y)) (t .low) (counts-rule r rule (t .few) q)
+          (λ more y. kept-blank fixed nums now more (r * 64 + spread (leftIn rule)) (λ o a b. same o (omega arith)) (t .blank more y)) (t .kinds) (counts-rule r rule (t .few) q)
           g (x .kids) (x .rest) (x .is) (k .0) (k .1)

@@ -94,7 +94,7 @@ module _ (book fixed nums marks : List ℕ) (count : ℕ) (path : OnPath) (s : S
         short = t .short;
         here = t .here;
         blank = t .blank;
-        low = t .low;
+        kinds = t .kinds;
         covered = t .covered;
         struck = struck-held fixed marks after (path .held) c (occurrences [] 0 0 (leftIn rule)) (occurrencesAt (r * 64) [] 0 0 (leftIn rule)) [] (closed r rule l f e) (same r rule l f e)
             (row-laters book fixed nums marks count path s r rule l f e) (t .struck);

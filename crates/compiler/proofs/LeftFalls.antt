@@ -11,7 +11,7 @@ use lib.ListN.{length, getD}
 use borrow.Author.Tests.{eqb-true, eqb-false, eq-eqb, ne-eqb, ltb-true, ltb-false, lt-ltb, le-ltb}
 use Rattle.term.specs.Word.{pick}
 use Rattle.term.proofs.Laws.{never, and-left, and-right, and-both}
-use Rattle.compiler.specs.told.Tables.{firstAt, manyAt, isFree, spotAt, headIs, headWord, isHeadWord, isLeft, isConstraint, sameName, leftSame, rowHas, kindFrom, rowOf, strikes}
+use Rattle.compiler.specs.told.Tables.{firstAt, manyAt, isFree, spotAt, headIs, headWord, isHeadWord, isLeft, isConstraint, sameName, leftSame, rowHas, kindFrom, rowOf, strikes, headKind}
 use Rattle.compiler.specs.told.NodeTold.{unentered, wordLeft, constraintLeft, leftInRows}
 use Rattle.compiler.proofs.Sweeps.{first-true}
 use Rattle.compiler.proofs.Restores.{MarkedAt, Marked, GrownAt, Grown, grown-none}
@@ -64,12 +64,12 @@ unentered-back count m before after p (suc x) y (inr q) e = absurd (omega (arith
 module _ (fixed nums nums′ marks marks′ : List ℕ) (count m : ℕ) (more : Marked m marks marks′) (given : Grown count nums nums′) where
   word-back : (k : ℕ) → wordLeft fixed nums′ marks′ k ≡ true → wordLeft fixed nums marks k ≡ true
   word-back k e =
-      let a = and-left (isFree marks′ (k / 64)) (ltb (getD fixed k 0) 33554432 && unentered marks′ (getD nums′ k 0)) e in
-      let b = and-right (isFree marks′ (k / 64)) (ltb (getD fixed k 0) 33554432 && unentered marks′ (getD nums′ k 0)) e in
-      let c = and-left (ltb (getD fixed k 0) 33554432) (unentered marks′ (getD nums′ k 0)) b in
-      let d = and-right (ltb (getD fixed k 0) 33554432) (unentered marks′ (getD nums′ k 0)) b in
-      and-both (isFree marks (k / 64)) (ltb (getD fixed k 0) 33554432 && unentered marks (getD nums k 0)) (free-back m marks marks′ more (k / 64) a)
-      (and-both (ltb (getD fixed k 0) 33554432) (unentered marks (getD nums k 0)) c (unentered-back count m marks marks′ more (getD nums k 0) (getD nums′ k 0) (given .each k) d))
+      let a = and-left (isFree marks′ (k / 64)) (headKind (getD fixed k 0) && unentered marks′ (getD nums′ k 0)) e in
+      let b = and-right (isFree marks′ (k / 64)) (headKind (getD fixed k 0) && unentered marks′ (getD nums′ k 0)) e in
+      let c = and-left (headKind (getD fixed k 0)) (unentered marks′ (getD nums′ k 0)) b in
+      let d = and-right (headKind (getD fixed k 0)) (unentered marks′ (getD nums′ k 0)) b in
+      and-both (isFree marks (k / 64)) (headKind (getD fixed k 0) && unentered marks (getD nums k 0)) (free-back m marks marks′ more (k / 64) a)
+      (and-both (headKind (getD fixed k 0)) (unentered marks (getD nums k 0)) c (unentered-back count m marks marks′ more (getD nums k 0) (getD nums′ k 0) (given .each k) d))
 
   constraint-back : (id : ℕ) → constraintLeft fixed marks′ id ≡ true → constraintLeft fixed marks id ≡ true
   constraint-back id e =
@@ -106,14 +106,14 @@ pub record HeadSpot (fixed nums : List ℕ) (r n : ℕ) : Type 0 where
   pub within : spot < 4096
   pub own : spot / 64 ≡ r
   pub number : getD nums spot 0 ≡ suc n
-  pub head : getD fixed spot 0 < 33554432
+  pub head : headKind (getD fixed spot 0) ≡ true
 
 pub head-spot : (fixed nums : List ℕ) (r n : ℕ) → r < 64 → isHeadWord (headWord fixed nums r n) ≡ true → HeadSpot fixed nums r n
 unfolding headWord spotAt
 head-spot fixed nums r n h e = go (firstAt (λ o. eqb (getD nums (r * 64 + o) 0) (n + 1)) 0 64) (λ l. first-true (λ o. eqb (getD nums (r * 64 + o) 0) (n + 1)) 64 0 l) e
   where
-    low : (k : ℕ) → k < 4096 → k / 64 ≡ r → getD nums k 0 ≡ suc n → (b : Bool) → ltb (getD fixed k 0) 33554432 ≡ b → isHeadWord (pick b (getD fixed k 0) 33554432) ≡ true → HeadSpot fixed nums r n
-    low k l own q true w f = record { spot = k; within = l; own = own; number = q; head = ltb-true (getD fixed k 0) 33554432 w }
+    low : (k : ℕ) → k < 4096 → k / 64 ≡ r → getD nums k 0 ≡ suc n → (b : Bool) → headKind (getD fixed k 0) ≡ b → isHeadWord (pick b (getD fixed k 0) 33554432) ≡ true → HeadSpot fixed nums r n
+    low k l own q true w f = record { spot = k; within = l; own = own; number = q; head = w }
     low k l own q false w f = never (cc)
 
     inner : (o : ℕ) → (o < 64 → eqb (getD nums (r * 64 + o) 0) (n + 1) ≡ true) → (b : Bool) → ltb o 64 ≡ b
@@ -122,7 +122,7 @@ head-spot fixed nums r n h e = go (firstAt (λ o. eqb (getD nums (r * 64 + o) 0)
     inner o t true z f =
         let l = ltb-true o 64 z in
         let g : isHeadWord (headIs (getD fixed (r * 64 + o) 0)) ≡ true = rw (ne-eqb (r * 64 + o) 4096 (λ x. omega (arith, x))) at f in
-        low (r * 64 + o) (omega arith) (omega arith) (omega (arith, eqb-true (getD nums (r * 64 + o) 0) (n + 1) (t l))) (ltb (getD fixed (r * 64 + o) 0) 33554432) refl g
+        low (r * 64 + o) (omega arith) (omega arith) (omega (arith, eqb-true (getD nums (r * 64 + o) 0) (n + 1) (t l))) (headKind (getD fixed (r * 64 + o) 0)) refl g
 
     go : (o : ℕ) → (o < 64 → eqb (getD nums (r * 64 + o) 0) (n + 1) ≡ true)
         → isHeadWord (pick (eqb (pick (ltb o 64) (r * 64 + o) 4096) 4096) 33554432 (headIs (getD fixed (pick (ltb o 64) (r * 64 + o) 4096) 0))) ≡ true → HeadSpot fixed nums r n
@@ -142,7 +142,7 @@ module _ (fixed nums marks marks′ : List ℕ) (m : ℕ) (real : m ≡ 0 → �
       word-falls fixed nums nums′ marks marks′ count m more g (s .spot) (s .within) (was s) (now-not s (given s (g .each (s .spot))))
     where
       was : (s : HeadSpot fixed nums r n) → wordLeft fixed nums marks (s .spot) ≡ true
-      was s = rw (s .own, s .number, f, lt-ltb (getD fixed (s .spot) 0) 33554432 (s .head)) o
+      was s = rw (s .own, s .number, f, s .head) o
 
       given : (s : HeadSpot fixed nums r n) → GrownAt count (getD nums (s .spot) 0) (getD nums′ (s .spot) 0) → getD nums′ (s .spot) 0 ≡ suc n
       given s (inl q) = q ∙ s .number
@@ -154,7 +154,7 @@ module _ (fixed nums marks marks′ : List ℕ) (m : ℕ) (real : m ≡ 0 → �
       last false b = refl
 
       now-not : (s : HeadSpot fixed nums r n) → getD nums′ (s .spot) 0 ≡ suc n → wordLeft fixed nums′ marks′ (s .spot) ≡ false
-      now-not s q = rw (q, z, ne-eqb m 0 real) (last (isFree marks′ (s .spot / 64)) (ltb (getD fixed (s .spot) 0) 33554432))
+      now-not s q = rw (q, z, ne-eqb m 0 real) (last (isFree marks′ (s .spot / 64)) (headKind (getD fixed (s .spot) 0)))
 
   -- the default: a row with a head at an open place is struck
   pub default-falls : (r n : ℕ) → r < 64 → isFree marks r ≡ true → isHeadWord (headWord fixed nums r n) ≡ true → isFree marks (64 + n) ≡ true → getD marks′ r 0 ≡ m
@@ -164,7 +164,7 @@ module _ (fixed nums marks marks′ : List ℕ) (m : ℕ) (real : m ≡ 0 → �
       word-falls fixed nums nums marks marks′ 0 m more (grown-none 0 nums) (s .spot) (s .within) (was s) (now-not s)
     where
       was : (s : HeadSpot fixed nums r n) → wordLeft fixed nums marks (s .spot) ≡ true
-      was s = rw (s .own, s .number, f, lt-ltb (getD fixed (s .spot) 0) 33554432 (s .head)) o
+      was s = rw (s .own, s .number, f, s .head) o
 
       now-not : (s : HeadSpot fixed nums r n) → wordLeft fixed nums marks′ (s .spot) ≡ false
       now-not s = rw (s .own, z, ne-eqb m 0 real)

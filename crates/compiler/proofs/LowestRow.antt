@@ -14,16 +14,16 @@ use Rattle.fit.specs.Constraint.{Place}
 use Rattle.fit.specs.Match.{leftIn}
 use Rattle.tree.specs.Path.{Uncovered, OnPath, placeNumbered}
 use Rattle.tree.specs.Rows.{subAt, headHere, lowestOpen}
-use Rattle.compiler.specs.told.Tables.{isFree, lowestFrom}
+use Rattle.compiler.specs.told.Tables.{isFree, headKind, lowestFrom}
 use Rattle.compiler.specs.told.Stands.{RowStands, Stands}
 use Rattle.tree.proofs.Laws.{head-sub, open-entered, entered-open, OpenAt}
-use Rattle.compiler.proofs.SpotHeads.{SubLow, subWord, isEnd, at-spot, spot-exists}
-use Rattle.compiler.proofs.Strikes.{low-low, low-at, head-low, number-own, number-only}
+use Rattle.compiler.proofs.SpotHeads.{SubKinds, subWord, isEnd, at-spot, spot-exists}
+use Rattle.compiler.proofs.Strikes.{kinds-sub, kinds-at, head-kind, number-own, number-only}
 use Rattle.compiler.proofs.Lowests.{Candidate, lowOr, lowest-is}
 
-some-head : (y : Left) → SubLow y → isEnd y ≡ false → subWord y < 33554432 → (h : Head) × (headHere y ≡ some h)
+some-head : (y : Left) → SubKinds y → isEnd y ≡ false → headKind (subWord y) ≡ true → (h : Head) × (headHere y ≡ some h)
 some-head end l e w = never (cc)
-some-head (hole x ys rest) l e w = absurd (omega (arith, w, l .holes x ys rest refl))
+some-head (hole x ys rest) l e w = never (let z = l .holes x ys rest refl in cc)
 some-head (part h kids rest) l e w = (h, refl)
 
 head-some : (y : Left) (h : Head) → headHere y ≡ some h → (isEnd y ≡ false) × (subWord y ≡ word h)
@@ -42,8 +42,8 @@ module _ (book fixed nums marks : List ℕ) (count : ℕ) (path : OnPath) (s : S
   row : RowStands fixed nums marks path r (rule .vars) (leftIn rule)
   row = s .rows r rule few free is
 
-  low : (q : Place) → SubLow (subAt left q)
-  low q = low-low (subAt left q) (low-at left q (row .low))
+  kinds : (q : Place) → SubKinds (subAt left q)
+  kinds q = kinds-sub (subAt left q) (kinds-at left q (row .kinds))
 
   there : (j v : ℕ) → r * 64 ≤ j → j < r * 64 + 64 → Candidate fixed nums marks j v → OpenAt left us v
   there j v a b c =
@@ -53,7 +53,7 @@ module _ (book fixed nums marks : List ℕ) (count : ℕ) (path : OnPath) (s : S
       let e : getD nums (r * 64 + (j - r * 64)) 0 ≡ suc v = rw z (c .number) in
       let t = at-spot fixed nums us r v left q (number-only book fixed nums marks count path s v) (number-own book fixed nums marks count path s v h) (row .here) (row .short) (row .blank) few (j - r * 64) (omega arith) e in
       let w : getD fixed j 0 ≡ subWord (subAt left q) = rw z at (t .0) in
-      let g = some-head (subAt left q) (low q) (t .1) (omega (arith, w, c .head)) in
+      let g = some-head (subAt left q) (kinds q) (t .1) (rw w at (c .head)) in
       record { new = open-entered us v (sym (s .opened v h) ∙ c .free); head = g .0; is = head-sub left q ∙ g .1 }
 
   back : (m : ℕ) → OpenAt left us m → (j : ℕ) × (r * 64 ≤ j) × (j < r * 64 + 64) × Candidate fixed nums marks j m
@@ -68,7 +68,7 @@ module _ (book fixed nums marks : List ℕ) (count : ℕ) (path : OnPath) (s : S
         t .low,
         omega (arith, t .high, row .short),
         record {
-          head = omega (arith, t .words, d .1, head-low (subAt left q) (low q) (o .head) e);
+          head = ap headKind (t .words ∙ d .1) ∙ head-kind (subAt left q) (kinds q) (o .head) e;
           number = t .number ∙ number-own book fixed nums marks count path s m h;
           free = s .opened m h ∙ p .1;
         },

@@ -15,14 +15,14 @@ use Rattle.term.proofs.Laws.{never}
 use Rattle.fit.specs.Left.{Left}
 use Rattle.tree.specs.Path.{Uncovered}
 use Rattle.tree.specs.Rows.{lowestOpen}
-use Rattle.compiler.specs.told.Tables.{isFree, lowerOf, lowerAt, lowestFrom}
+use Rattle.compiler.specs.told.Tables.{isFree, headKind, lowerOf, lowerAt, lowestFrom}
 use Rattle.tree.proofs.Laws.{least-open, OpenAt, open-at}
 
 -- ---- on the path: no open place with a head is lower
 -- ---- in the tables: the lowest number of the spots that have a head and are open
 module _ (fixed nums marks : List ℕ) where
   pub record Candidate (k v : ℕ) : Type 0 where
-    pub head : getD fixed k 0 < 33554432
+    pub head : headKind (getD fixed k 0) ≡ true
     pub number : getD nums k 0 ≡ suc v
     pub free : isFree marks (64 + v) ≡ true
 
@@ -34,7 +34,7 @@ module _ (fixed nums marks : List ℕ) where
   same-step : (k best : ℕ) → ((v : ℕ) → Candidate k v → ⊥) → StepIs k best best
   same-step k best n = record { from = inl refl; keep = λ h. (h, omega arith); least = λ v c. absurd (n v c) }
 
-  lower-step : (k best : ℕ) → getD fixed k 0 < 33554432 → (n : ℕ) → getD nums k 0 ≡ n → StepIs k best (lowerOf marks n best)
+  lower-step : (k best : ℕ) → headKind (getD fixed k 0) ≡ true → (n : ℕ) → getD nums k 0 ≡ n → StepIs k best (lowerOf marks n best)
   unfolding lowerOf
   lower-step k best h zero e = same-step k best (λ v c. omega (arith, e, c .number))
   lower-step k best h (suc v) e =
@@ -60,11 +60,11 @@ module _ (fixed nums marks : List ℕ) where
           first false q = second (ltb best (suc v)) refl (eqb-false best 0 q)
 
   spot-step : (k best : ℕ) → StepIs k best (lowerAt fixed nums marks k best)
-  spot-step k best = go (ltb (getD fixed k 0) 33554432) refl
+  spot-step k best = go (headKind (getD fixed k 0)) refl
     where
-      go : (b : Bool) → ltb (getD fixed k 0) 33554432 ≡ b → StepIs k best (pick b (lowerOf marks (getD nums k 0) best) best)
-      go true e = lower-step k best (ltb-true (getD fixed k 0) 33554432 e) (getD nums k 0) refl
-      go false e = same-step k best (λ v c. omega (arith, ltb-false (getD fixed k 0) 33554432 e, c .head))
+      go : (b : Bool) → headKind (getD fixed k 0) ≡ b → StepIs k best (pick b (lowerOf marks (getD nums k 0) best) best)
+      go true e = lower-step k best e (getD nums k 0) refl
+      go false e = same-step k best (λ v c. never (let h = c .head in cc))
 
   pub record RangeIs (k more best y : ℕ) : Type 0 where
     pub from : (y ≡ best) ⊎ ((j : ℕ) × (v : ℕ) × (k ≤ j) × (j < k + more) × Candidate j v × (y ≡ suc v))

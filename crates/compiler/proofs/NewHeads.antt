@@ -16,12 +16,13 @@ use Rattle.fit.specs.Match.{leftIn}
 use Rattle.tree.specs.Path.{OnPath, placeNumbered}
 use Rattle.tree.specs.Rows.{headAt}
 use Rattle.tree.specs.Compile.{without, addHead, heads}
-use Rattle.compiler.specs.told.Tables.{firstAt, manyAt, isFree, hasHead, headWord, newHead, isHeadWord, countHeads}
+use Rattle.compiler.specs.told.Tables.{firstAt, manyAt, isFree, hasHead, headWord, newHead, isHeadWord, countHeads, headKind}
 use Rattle.compiler.specs.told.Stands.{rowIf, rowsLeft, Stands}
 use Rattle.tree.proofs.Laws.{heads-no, without-none, without-more, heads-row}
 use Rattle.compiler.proofs.SpotHeads.{headOr}
 use Rattle.compiler.proofs.RowsLeft.{rowOfRule}
-use Rattle.compiler.proofs.Strikes.{row-head, head-words}
+use Rattle.compiler.proofs.Strikes.{row-head, head-kinds}
+use Rattle.compiler.proofs.TableLaws.{head-there}
 
 -- ---- one row more
 first-more : (p : ℕ → Bool) (m i : ℕ) → eqb (firstAt p i (suc m)) (i + suc m) ≡ eqb (firstAt p i m) (i + m) && not (p (i + m))
@@ -84,8 +85,8 @@ all-without h (g ∷ gs) a = rw (without-more h g gs) (go (eqb (word h) (word g)
     go true i = i
     go false i = (a .0, i)
 
-low-is-head : (w : ℕ) → w < 33554432 → isHeadWord w ≡ true
-low-is-head w l = rw (ne-eqb w 33554432 (λ e. omega (arith, e)))
+kind-is-head : (w : ℕ) → headKind w ≡ true → isHeadWord w ≡ true
+kind-is-head w l = rw (ne-eqb w 33554432 (head-there w l))
 
 kept-first : (p : ℕ → Bool) (h : Head) (hs : List Head) → keptHeads p (h ∷ hs) ≡ pick (p (word h)) (h ∷ keptHeads p hs) (keptHeads p hs)
 unfolding keptHeads
@@ -226,13 +227,13 @@ module _ (fixed nums marks : List ℕ) (n r more : ℕ) (hs : List Head) (rest :
       go true = refl
       go false = refl
 
-  adds-some : (h : Head) → isFree marks r ≡ true → headWord fixed nums r n ≡ word h → word h < 33554432
+  adds-some : (h : Head) → isFree marks r ≡ true → headWord fixed nums r n ≡ word h → headKind (word h) ≡ true
       → headWords (keptHeads (isNewHead fixed nums marks n r) (h ∷ without h hs)) ≡ headsFrom fixed nums marks n r (suc more)
   adds-some h f e l =
       rw (
         kept-first (isNewHead fixed nums marks n r) h (without h hs),
         kept-without (isNewHead fixed nums marks n r) (isNewHead fixed nums marks n (suc r)) h (new-headed fixed nums marks n r (word h) f e) hs,
-        low-is-head (word h) l,
+        kind-is-head (word h) l,
       )
       (go (isNew fixed nums marks n r (word h)) (free-head fixed nums marks n r (word h) f e))
     where
@@ -240,7 +241,7 @@ module _ (fixed nums marks : List ℕ) (n r more : ℕ) (hs : List Head) (rest :
           → headWords (pick (b && true) (h ∷ keptHeads (isNewHead fixed nums marks n (suc r)) hs) (keptHeads (isNewHead fixed nums marks n (suc r)) hs)) ≡ headsFrom fixed nums marks n r (suc more)
       go true q =
           words-first h (keptHeads (isNewHead fixed nums marks n (suc r)) hs) ∙ ap₂ _∷_ (sym q) rest
-          ∙ sym (heads-step fixed nums marks n r more (ap isHeadWord q ∙ low-is-head (word h) l))
+          ∙ sym (heads-step fixed nums marks n r more (ap isHeadWord q ∙ kind-is-head (word h) l))
       go false q = rest ∙ sym (heads-skip fixed nums marks n r more (ap isHeadWord q))
 
 none-from : (fixed nums marks : List ℕ) (n r : ℕ) (p : Place) → headWords (keptHeads (isNewHead fixed nums marks n r) (heads p [])) ≡ headsFrom fixed nums marks n r 0
@@ -267,7 +268,7 @@ module _ (book fixed nums marks : List ℕ) (count : ℕ) (path : OnPath) (s : S
             added : (o : Option Head) → headAt (leftIn rule) at ≡ o → AllHeads (addHead o (heads at (rowsLeft book marks (suc r) more)))
             added none q = i
             added (some h) q =
-                (low-is-head (word h) (head-words book fixed nums marks count path s n known r rule (omega arith) f e h q), all-without h (heads at (rowsLeft book marks (suc r) more)) i)
+                (kind-is-head (word h) (head-kinds book fixed nums marks count path s n known r rule (omega arith) f e h q), all-without h (heads at (rowsLeft book marks (suc r) more)) i)
 
     heads-from : (more r : ℕ) → r + more ≤ 64 → headWords (keptHeads (isNewHead fixed nums marks n r) (heads at (rowsLeft book marks r more))) ≡ headsFrom fixed nums marks n r more
     unfolding rowsLeft
@@ -288,7 +289,7 @@ module _ (book fixed nums marks : List ℕ) (count : ℕ) (path : OnPath) (s : S
             added none q w = adds-none fixed nums marks n r more (heads at (rowsLeft book marks (suc r) more)) i f (w ∙ ap headOr q)
             added (some h) q w =
                 adds-some fixed nums marks n r more (heads at (rowsLeft book marks (suc r) more)) i h f (w ∙ ap headOr q)
-                (head-words book fixed nums marks count path s n known r rule (omega arith) f e h q)
+                (head-kinds book fixed nums marks count path s n known r rule (omega arith) f e h q)
 
   pub new-heads : (n : ℕ) → n < count → headWords (heads (placeNumbered n (path .uncovered)) (rowsLeft book marks 0 64)) ≡ headsFrom fixed nums marks n 0 64
   new-heads n known = ap headWords (sym (all-kept (isNewHead fixed nums marks n 0) (λ w e. rw (new-start fixed nums marks n w, e)) _ (all-heads n known 64 0 (omega arith)))) ∙ heads-from n known 64 0 (omega arith)

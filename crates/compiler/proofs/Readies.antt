@@ -19,7 +19,7 @@ use Rattle.compiler.specs.told.NodeTold.{leftInRows, SwitchReady, TestRe
 use Rattle.tree.proofs.Laws.{open-at}
 use Rattle.compiler.proofs.WordLaws.{length-ids}
 use Rattle.compiler.proofs.SpotHeads.{headOr}
-use Rattle.compiler.proofs.Strikes.{row-head, head-words}
+use Rattle.compiler.proofs.Strikes.{row-head, head-kinds}
 use Rattle.compiler.proofs.StruckRows.{struck-later, struck-stands}
 use Rattle.compiler.proofs.Restores.{Marked, marked-join, rows-marked, same-marked, set-marked, marked-below, unmark-restores, forget-restores}
 use Rattle.compiler.proofs.NewHeads.{heads-few, heads-counted, new-head-row}
@@ -29,6 +29,7 @@ use Rattle.compiler.proofs.ToldCases.{CaseIs, case-is}
 use Rattle.compiler.proofs.ToldSwitch.{lowest-known}
 use Rattle.compiler.proofs.FirstLeft.{FirstLeft}
 use Rattle.compiler.proofs.Entered.{count-most}
+use Rattle.compiler.proofs.TableLaws.{head-there}
 
 -- ---- how long the words of a node are
 leaf-most : (fixed nums : List ℕ) (r x more : ℕ) → length (leafFrom fixed nums r x more) ≤ 257 * more
@@ -190,8 +191,8 @@ module _ (fixed nums marks : List ℕ) (limit count at n : ℕ) (t : SwitchReady
       let f = first-row (switch-ready .book) fixed nums marks count (switch-ready .path) (switch-ready .stands) (t .first) in
       let o = open-at (leftIn (f .rule)) (switch-ready .path .uncovered) n (lowest-open (switch-ready .book) fixed nums marks count (switch-ready .path) (switch-ready .stands) (t .first) n (t .lowest)) in
       let w = row-head (switch-ready .book) fixed nums marks count (switch-ready .path) (switch-ready .stands) n (place-known .0) (firstRow marks) (f .rule) (t .first) (f .free) (f .is) in
-      let l = head-words (switch-ready .book) fixed nums marks count (switch-ready .path) (switch-ready .stands) n (place-known .0) (firstRow marks) (f .rule) (t .first) (f .free) (f .is) (o .head) (o .is) in
-      ap isHeadWord (w ∙ ap headOr (o .is)) ∙ rw (ne-eqb (word (o .head)) 33554432 (λ e. omega (arith, e, l)))
+      let l = head-kinds (switch-ready .book) fixed nums marks count (switch-ready .path) (switch-ready .stands) n (place-known .0) (firstRow marks) (f .rule) (t .first) (f .free) (f .is) (o .head) (o .is) in
+      ap isHeadWord (w ∙ ap headOr (o .is)) ∙ rw (ne-eqb (word (o .head)) 33554432 (head-there (word (o .head)) l))
 
   module _ (m : ℕ) (own : m ≡ at + 2) where
     switch-real : m ≡ 0 → ⊥

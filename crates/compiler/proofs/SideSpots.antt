@@ -6,7 +6,7 @@ use mathlib.Core.Option.{Option, none, some}
 use Prim.Native.Nat.{ℕ, suc, _+_, _≤_, _<_}
 use native.Mathlib.Omega.{arith}
 use lib.ListN.{length, getD, drop, length-append}
-use Rattle.term.specs.Word.{Head, symbol, abstraction, variable, pattern, word, count}
+use Rattle.term.specs.Word.{Head, symbol, abstraction, variable, pattern, word, count, kindOf}
 use Rattle.term.specs.Row.{Row, nothing, node, width, words, Formed}
 use Rattle.term.specs.Renumber.{inside}
 use Rattle.term.proofs.Laws.{never, and-left, and-right, words-nothing, words-node, width-nothing, width-node, formed-node, kind-word, kind-symbol, kind-abstraction, kind-pattern, count-variable, count-pattern, inside-symbol, inside-abstraction}
@@ -17,11 +17,12 @@ use Rattle.fit.specs.Constraint.{Place}
 use Rattle.fit.proofs.Laws.{left-of-nothing, left-of-symbol, left-of-abstraction, left-of-pattern}
 use Rattle.tree.specs.told.Covered.{numberedAs}
 use Rattle.tree.specs.Path.{Uncovered, root}
-use Rattle.compiler.specs.told.Stands.{spread, ListAt, LeftAt, LowWords}
-use Rattle.compiler.specs.told.Tables.{manyAt}
+use Rattle.compiler.specs.told.Stands.{spread, ListAt, LeftAt, HeadKinds}
+use Rattle.compiler.specs.told.Tables.{manyAt, headKind}
 use Rattle.compiler.specs.told.Loaded.{reachesTo, depthOf}
 use Rattle.tree.proofs.Laws.{root-numbered, below-root}
 use Rattle.compiler.proofs.SideDepths.{NodeAt, node-at, below-symbol, below-abstraction, beside-word}
+use Rattle.compiler.proofs.TableLaws.{head-symbol, head-abstraction, other-kind}
 
 -- ---- clauses
 list-none : (fixed nums : List ℕ) (k : ℕ) → ListAt fixed nums k []
@@ -93,44 +94,45 @@ spread-left (node (pattern x c) kids rest) f d s =
     let b = spread-left rest (n .beside) d (and-right (listFor d (idsOf kids)) (leftShape d rest) e) in
     ap spread (left-of-pattern x c kids rest) ∙ omega (arith, spread-of-hole x (idsOr (idsOf kids)) (leftOf rest), row-long (pattern x c) kids rest, a .1, b)
 
--- heads are below 33554432, pattern variables are not
-low-end : LowWords end
-unfolding LowWords
-low-end = tt
+-- heads are symbols and abstractions, and pattern variables are neither
+kinds-end : HeadKinds end
+unfolding HeadKinds
+kinds-end = tt
 
-low-hole : (x : ℕ) (ys : List ℕ) (rest : Left) → 33554432 ≤ word (pattern x (length ys)) → LowWords rest → LowWords (hole x ys rest)
-unfolding LowWords
-low-hole x ys rest a b = (a, b)
+kinds-hole : (x : ℕ) (ys : List ℕ) (rest : Left) → headKind (word (pattern x (length ys))) ≡ false → HeadKinds rest → HeadKinds (hole x ys rest)
+unfolding HeadKinds
+kinds-hole x ys rest a b = (a, b)
 
-low-part : (h : Head) (kids rest : Left) → word h < 33554432 → LowWords kids → LowWords rest → LowWords (part h kids rest)
-unfolding LowWords
-low-part h kids rest a b c = (a, b, c)
+kinds-part : (h : Head) (kids rest : Left) → headKind (word h) ≡ true → HeadKinds kids → HeadKinds rest → HeadKinds (part h kids rest)
+unfolding HeadKinds
+kinds-part h kids rest a b c = (a, b, c)
 
-pub low-left : (f : Row) → Formed f → (d : ℕ) → leftShape d f ≡ true → LowWords (leftOf f)
-low-left nothing f d s = rw left-of-nothing low-end
-low-left (node (symbol i c) kids rest) f d s =
+pub kinds-left : (f : Row) → Formed f → (d : ℕ) → leftShape d f ≡ true → HeadKinds (leftOf f)
+kinds-left nothing f d s = rw left-of-nothing kinds-end
+kinds-left (node (symbol i c) kids rest) f d s =
     let n = formed-node (symbol i c) kids rest f in
     let e = sym (left-symbol d i c kids rest) ∙ s in
     rw (left-of-symbol i c kids rest)
-    (low-part (symbol i c) (leftOf kids) (leftOf rest) (omega (arith, kind-word (symbol i c) (n .table), kind-symbol i c))
-    (low-left kids (n .below) d (and-left (leftShape d kids) (leftShape d rest) e))
-    (low-left rest (n .beside) d (and-right (leftShape d kids) (leftShape d rest) e)))
-low-left (node abstraction kids rest) f d s =
+    (kinds-part (symbol i c) (leftOf kids) (leftOf rest) (sym (head-symbol (word (symbol i c)) 0 (sym (kind-word (symbol i c) (n .table) ∙ kind-symbol i c)) refl))
+    (kinds-left kids (n .below) d (and-left (leftShape d kids) (leftShape d rest) e))
+    (kinds-left rest (n .beside) d (and-right (leftShape d kids) (leftShape d rest) e)))
+kinds-left (node abstraction kids rest) f d s =
     let n = formed-node abstraction kids rest f in
     let e = sym (left-abstraction d kids rest) ∙ s in
     rw (left-of-abstraction kids rest)
-    (low-part abstraction (leftOf kids) (leftOf rest) (omega (arith, kind-word abstraction (n .table), kind-abstraction))
-    (low-left kids (n .below) (suc d) (and-left (leftShape (suc d) kids) (leftShape d rest) e))
-    (low-left rest (n .beside) d (and-right (leftShape (suc d) kids) (leftShape d rest) e)))
-low-left (node (variable i) kids rest) f d s = never (let z = left-variable d i kids rest in cc)
-low-left (node (pattern x c) kids rest) f d s =
+    (kinds-part abstraction (leftOf kids) (leftOf rest) (sym (head-abstraction (word abstraction) 1 (sym (kind-word abstraction (n .table) ∙ kind-abstraction)) (λ x. omega (arith, x))))
+    (kinds-left kids (n .below) (suc d) (and-left (leftShape (suc d) kids) (leftShape d rest) e))
+    (kinds-left rest (n .beside) d (and-right (leftShape (suc d) kids) (leftShape d rest) e)))
+kinds-left (node (variable i) kids rest) f d s = never (let z = left-variable d i kids rest in cc)
+kinds-left (node (pattern x c) kids rest) f d s =
     let n = formed-node (pattern x c) kids rest f in
     let e = sym (left-pattern d x c kids rest) ∙ s in
     let a = list-words d kids (n .below) (and-left (listFor d (idsOf kids)) (leftShape d rest) e) in
     let z : c ≡ length (idsOr (idsOf kids)) = sym (count-pattern x c) ∙ sym (n .full) ∙ sym (a .2) in
-    let w : 33554432 ≤ word (pattern x c) = omega (arith, kind-word (pattern x c) (n .table), kind-pattern x c) in
+    let kind : kindOf (word (pattern x c)) ≡ 3 = kind-word (pattern x c) (n .table) ∙ kind-pattern x c in
+    let w : headKind (word (pattern x c)) ≡ false = other-kind (word (pattern x c)) (λ k. omega (arith, k, kind)) (λ k. omega (arith, k, kind)) in
     rw (left-of-pattern x c kids rest)
-    (low-hole x (idsOr (idsOf kids)) (leftOf rest) (rw z at w) (low-left rest (n .beside) d (and-right (listFor d (idsOf kids)) (leftShape d rest) e)))
+    (kinds-hole x (idsOr (idsOf kids)) (leftOf rest) (rw z at w) (kinds-left rest (n .beside) d (and-right (listFor d (idsOf kids)) (leftShape d rest) e)))
 
 none-wide : (f : Row) → width f ≡ 0 → f ≡ nothing
 none-wide nothing e = refl

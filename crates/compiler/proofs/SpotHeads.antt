@@ -1,6 +1,6 @@
 -- The spot of a rule at a place has the word of its sub-pattern there: so what the tables say of heads is what the rows have.
 use mathlib.Core.Path.{_≡_, refl, sym, ap, ap₂, _∙_}
-use mathlib.Core.Bool.{Bool, true, false, _&&_, not}
+use mathlib.Core.Bool.{Bool, true, false, _&&_}
 use mathlib.Core.List.{List, [], _∷_}
 use mathlib.Core.Option.{Option, none, some}
 use Prim.Native.Nat.{ℕ, zero, suc, _+_, _*_, _-_, _≤_, _<_}
@@ -17,8 +17,8 @@ use Rattle.tree.specs.told.Covered.{numberedAs}
 use Rattle.tree.specs.Path.{Uncovered}
 use Rattle.tree.specs.Rows.{sub, below, subsUnder, subAt, headHere, headAt}
 use Rattle.compiler.specs.told.Stands.{spread, ListAt, LeftAt, BlankAt}
-use borrow.Author.Tests.{eqb-true, eqb-false, eq-eqb, ne-eqb, lt-ltb, le-ltb, ltb-true, ltb-false}
-use Rattle.compiler.specs.told.Tables.{firstAt, spotIn, spotAt, headIs, headWord}
+use borrow.Author.Tests.{eqb-true, eqb-false, eq-eqb, ne-eqb, ltb-true, ltb-false}
+use Rattle.compiler.specs.told.Tables.{firstAt, spotIn, spotAt, headKind, headIs, headWord}
 use Rattle.tree.proofs.Laws.{sub-end, sub-hole, sub-part, sub-root, subs-child, below-end, below-hole, below-part, subsFrom, from-hole, from-part, from-start, subs-root, sub-child, head-sub, headed-below}
 use Rattle.compiler.proofs.Sweeps.{first-true, first-false}
 use Rattle.compiler.proofs.TableLaws.{atPlace}
@@ -231,15 +231,15 @@ abbrev pub headOr : Option Head → ℕ
 headOr none = 33554432
 headOr (some h) = word h
 
--- what the words of a left side are: heads are below 33554432, pattern variables are not
-pub record SubLow (y : Left) : Type 0 where
-  pub heads : (h : Head) (kids rest : Left) → y ≡ part h kids rest → word h < 33554432
-  pub holes : (x : ℕ) (ys : List ℕ) (rest : Left) → y ≡ hole x ys rest → 33554432 ≤ word (pattern x (length ys))
+-- what the words of a left side are: heads are symbols and abstractions, and pattern variables are neither
+pub record SubKinds (y : Left) : Type 0 where
+  pub heads : (h : Head) (kids rest : Left) → y ≡ part h kids rest → headKind (word h) ≡ true
+  pub holes : (x : ℕ) (ys : List ℕ) (rest : Left) → y ≡ hole x ys rest → headKind (word (pattern x (length ys))) ≡ false
 
-sub-head : (y : Left) → SubLow y → isEnd y ≡ false → headIs (subWord y) ≡ headOr (headHere y)
+sub-head : (y : Left) → SubKinds y → isEnd y ≡ false → headIs (subWord y) ≡ headOr (headHere y)
 sub-head end s e = never (cc)
-sub-head (hole x ys rest) s e = rw (le-ltb (word (pattern x (length ys))) 33554432 (s .holes x ys rest refl))
-sub-head (part h kids rest) s e = rw (lt-ltb (word h) 33554432 (s .heads h kids rest refl))
+sub-head (hole x ys rest) s e = rw (s .holes x ys rest refl)
+sub-head (part h kids rest) s e = rw (s .heads h kids rest refl)
 
 end-head : (y : Left) → isEnd y ≡ true → 33554432 ≡ headOr (headHere y)
 end-head end e = refl
@@ -270,9 +270,9 @@ module _ (fixed nums : List ℕ) (us : List Uncovered) (r n : ℕ) (left : Left)
           let x : true ≡ false = sym (eq-eqb (getD nums (r * 64 + (s .spot - r * 64)) 0) (n + 1) g) ∙ f in
           never (cc)
 
-  pub head-is-word : SubLow (subAt left q) → headWord fixed nums r n ≡ headOr (headAt left q)
+  pub head-is-word : SubKinds (subAt left q) → headWord fixed nums r n ≡ headOr (headAt left q)
   unfolding headWord spotAt
-  head-is-word low = rw (head-sub left q) (go (firstAt (atPlace nums r n) 0 64) refl)
+  head-is-word kinds = rw (head-sub left q) (go (firstAt (atPlace nums r n) 0 64) refl)
     where
       go : (o : ℕ) → firstAt (atPlace nums r n) 0 64 ≡ o → pick (eqb (spotIn r o) 4096) 33554432 (headIs (getD fixed (spotIn r o) 0)) ≡ headOr (headHere (subAt left q))
       go o e = inner (ltb o 64) refl
@@ -282,5 +282,5 @@ module _ (fixed nums : List ℕ) (us : List Uncovered) (r n : ℕ) (left : Left)
               let l = ltb-true o 64 f in
               let t : atPlace nums r n o ≡ true = rw e at (first-true (atPlace nums r n) 64 0 (omega (arith, e))) in
               let s = at-spot o l (eqb-true (getD nums (r * 64 + o) 0) (n + 1) t ∙ omega arith) in
-              rw (ne-eqb (r * 64 + o) 4096 (λ x. omega (arith, x, l, rule)), s .0) (sub-head (subAt left q) low (s .1))
+              rw (ne-eqb (r * 64 + o) 4096 (λ x. omega (arith, x, l, rule)), s .0) (sub-head (subAt left q) kinds (s .1))
           inner false f = end-head (subAt left q) (no-spot (omega (arith, e, ltb-false o 64 f)))

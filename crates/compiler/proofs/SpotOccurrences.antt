@@ -20,8 +20,9 @@ use Rattle.fit.specs.Match.{leftIn}
 use Rattle.fit.proofs.Laws.{accepted-good, good-hole, good-part, occurrences-end, occurrences-hole, occurrences-part, first-nothing, first-here}
 use Rattle.tree.specs.told.Covered.{numberedAs}
 use Rattle.tree.specs.Path.{Uncovered, OnPath}
-use Rattle.compiler.specs.told.Tables.{firstAt, isFree, isVariable, variableSpot}
-use Rattle.compiler.specs.told.Stands.{spread, ListAt, LeftAt, BlankAt, LowWords, occurrencesAt, RowStands, Stands}
+use Rattle.compiler.specs.told.Tables.{firstAt, isFree, isVariable, variableSpot, headKind}
+use Rattle.compiler.specs.told.Stands.{spread, ListAt, LeftAt, BlankAt, HeadKinds, occurrencesAt, RowStands, Stands}
+use Rattle.compiler.proofs.TableLaws.{head-not}
 
 -- ---- spots with their occurrences
 -- this spot is that of this occurrence
@@ -204,9 +205,9 @@ blank-kinds fixed nums (suc more) k l j a b e = go (decLe (suc k) j) (λ q. blan
         omega (arith, v, l .0)
 
 module _ (fixed nums : List ℕ) (us : List Uncovered) (p : ℕ → Bool) (only : (j : ℕ) → (kindOf (getD fixed j 0) ≡ 3 → ⊥) → p j ≡ false) (vars : ℕ) where
-  search-left : (k : ℕ) (q : Place) (i d : ℕ) (x : Left) → LeftAt fixed nums us k q i d x → GoodLeft vars d x → LowWords x → d ≤ k → k + spread x ≤ 65535 → (more : ℕ)
+  search-left : (k : ℕ) (q : Place) (i d : ℕ) (x : Left) → LeftAt fixed nums us k q i d x → GoodLeft vars d x → HeadKinds x → d ≤ k → k + spread x ≤ 65535 → (more : ℕ)
       → firstAt p k (spread x + more) ≡ firstIn p (firstAt p (k + spread x) more) (occurrencesAt k q i d x)
-  unfolding LeftAt LowWords occurrencesAt spread firstIn firstAt
+  unfolding LeftAt HeadKinds occurrencesAt spread firstIn firstAt
   search-left k q i d end l g w a b more =
       let z : k + 0 ≡ k = omega arith in
       let y : 0 + more ≡ more = omega arith in
@@ -224,7 +225,7 @@ module _ (fixed nums : List ℕ) (us : List Uncovered) (p : ℕ → Bool) (only 
       let y : 1 + spread kids + spread rest + more ≡ suc (spread kids + (spread rest + more)) = omega arith in
       let z : suc k + spread kids ≡ k + 1 + spread kids = omega arith in
       let v : k + (1 + spread kids + spread rest) ≡ k + 1 + spread kids + spread rest = omega arith in
-      let f : p k ≡ false = only k (λ e. omega (arith, e, l .0, w .0)) in
+      let f : p k ≡ false = only k (λ e. head-not (getD fixed k 0) (ap headKind (l .0) ∙ w .0) e) in
       rw (y, f, search-left (suc k) (i ∷ q) 0 (inside h d) kids (l .2) (s .3) (w .1) (omega (arith, inside-le h d)) (omega arith) (spread rest + more))
       (rw (z, v, search-left (k + 1 + spread kids) q (suc i) d rest (l .3) (s .4) (w .2) (omega arith) (omega arith) more)
       (sym (first-in-join p (firstAt p (k + 1 + spread kids + spread rest) more) (occurrencesAt (suc k) (i ∷ q) 0 (inside h d) kids) (occurrencesAt (k + 1 + spread kids) q (suc i) d rest))))
@@ -338,7 +339,7 @@ module _ (book fixed nums marks : List ℕ) (count : ℕ) (path : OnPath) (s : S
       let x : r * 64 + spread (leftIn rule) + n ≡ r * 64 + 64 = omega (arith, row .short) in
       let t : firstAt p (r * 64 + spread (leftIn rule)) n ≡ r * 64 + 64 =
       first-blank p n (r * 64 + spread (leftIn rule)) (λ j a b. only j (blank-kinds fixed nums n (r * 64 + spread (leftIn rule)) (row .blank n (sym y)) j a b)) ∙ x in
-      ap (firstAt p (r * 64)) y ∙ search-left fixed nums (path .uncovered) p only (rule .vars) (r * 64) [] 0 0 (leftIn rule) (row .here) good (row .low) (omega arith) (omega (arith, row .short)) n
+      ap (firstAt p (r * 64)) y ∙ search-left fixed nums (path .uncovered) p only (rule .vars) (r * 64) [] 0 0 (leftIn rule) (row .here) good (row .kinds) (omega arith) (omega (arith, row .short)) n
       ∙ ap (λ z. firstIn p z spotsOf) t
 
   -- the spot of the first occurrence of a variable

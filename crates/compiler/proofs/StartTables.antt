@@ -20,11 +20,11 @@ use Rattle.tree.specs.told.Covered.{numberedAs, isOpen}
 use Rattle.tree.specs.Path.{root, start, placeNumbered}
 use Rattle.tree.specs.Rows.{has}
 use Rattle.compiler.specs.told.Tables.{isFree}
-use Rattle.compiler.specs.told.Stands.{spread, LeftAt, BlankAt, LowWords, occurrencesAt, SameStruck, StruckAt, RowStands}
+use Rattle.compiler.specs.told.Stands.{spread, LeftAt, BlankAt, HeadKinds, occurrencesAt, SameStruck, StruckAt, RowStands}
 use Rattle.compiler.specs.told.Loaded.{depthOf, RowAt, RulesAt, rootNumbered, rowMark, absentMarked}
 use Rattle.tree.proofs.Laws.{none-held, below-root, open-root, open-later, root-place, start-covered}
 use Rattle.compiler.proofs.LoadLaws.{word-in, word-past, depth-in}
-use Rattle.compiler.proofs.SideSpots.{spread-left, low-left, side-at}
+use Rattle.compiler.proofs.SideSpots.{spread-left, kinds-left, side-at}
 
 -- ---- a left side
 blank-at : (fixed nums : List ℕ) (more k : ℕ) → ((j : ℕ) → k ≤ j → j < k + more → (getD fixed j 0 ≡ 33554432) × (getD nums j 0 ≡ 0)) → BlankAt fixed nums k more
@@ -106,8 +106,8 @@ module _ (book fixed nums marks : List ℕ) (accepted : checkBook book ≡ Good)
     spread-is =
         ap spread (left-in rule (facts .left-tree)) ∙ spread-left (facts .left-tree .tree) (facts .left-tree .formed) 0 (facts .left-shape) ∙ ap length (sym (facts .left-tree .same))
 
-    row-low : LowWords (leftIn rule)
-    row-low = rw (left-in rule (facts .left-tree)) (low-left (facts .left-tree .tree) (facts .left-tree .formed) 0 (facts .left-shape))
+    row-kinds : HeadKinds (leftIn rule)
+    row-kinds = rw (left-in rule (facts .left-tree)) (kinds-left (facts .left-tree .tree) (facts .left-tree .formed) 0 (facts .left-shape))
 
     row-here : LeftAt fixed nums (root ∷ []) (r * 64) [] 0 0 (leftIn rule)
     row-here =
@@ -134,7 +134,7 @@ module _ (book fixed nums marks : List ℕ) (accepted : checkBook book ≡ Good)
           short = omega (arith, spread-is, short-side);
           here = row-here;
           blank = row-blank some-words;
-          low = row-low;
+          kinds = row-kinds;
           covered = start-covered (leftIn rule) (g .one);
           struck = none-struck marks mark-free [] (occurrencesAt (r * 64) [] 0 0 (leftIn rule));
         }

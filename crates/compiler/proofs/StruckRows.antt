@@ -48,7 +48,7 @@ module _ (book fixed nums marks : List ℕ) (count : ℕ) (path : OnPath) (s : S
         short = t .short;
         here = t .here;
         blank = t .blank;
-        low = t .low;
+        kinds = t .kinds;
         covered = t .covered;
         struck = struck-kept marks after (λ k l. e k (omega arith)) (path .held) _ [] (t .struck);
       }

@@ -8,8 +8,9 @@ use lib.Dec.{eqb, ltb}
 use lib.ListN.{length, getD, set, List·getD-eq-default}
 use borrow.Author.Tests.{ltb-true, ltb-false, lt-ltb, le-ltb, eqb-true, eqb-false, eq-eqb, ne-eqb}
 use Rattle.term.specs.Word.{pick, kindOf, countOf, identOf}
+use Rattle.term.proofs.Laws.{never}
 use Rattle.compiler.proofs.Sweeps.{Searching, search-found, search-nowhere, Sweeping, sweep-here, sweep-set}
-use Rattle.compiler.specs.told.Tables.{firstAt, manyAt, unmarked, forgotten, isFree, firstRow, spotIn, spotAt, headWord, lowerOf, lowestFrom, hasHead, isOther, struckRows, newHead, isHeadWord, countHeads, firstSpot, isVariable, isClosed, isSame, isConstraint, isLeft, firstFrom, firstConstraint, listed, sizeAt, inList, notIn, amongAt, differAt, sameList, sameClosed, sameSame, sameName, kindFrom, leftSame, rowHas, rowOf, strikes, struckSame}
+use Rattle.compiler.specs.told.Tables.{firstAt, manyAt, unmarked, forgotten, isFree, firstRow, spotIn, spotAt, headKind, headWord, lowerOf, lowestFrom, hasHead, isOther, struckRows, newHead, isHeadWord, countHeads, firstSpot, isVariable, isClosed, isSame, isConstraint, isLeft, firstFrom, firstConstraint, listed, sizeAt, inList, notIn, amongAt, differAt, sameList, sameClosed, sameSame, sameName, kindFrom, leftSame, rowHas, rowOf, strikes, struckSame}
 use Rattle.tree.proofs.Laws.{and-assoc, and-false}
 
 picked-same : (b : Bool) (x : ℕ) → pick b x x ≡ x
@@ -51,17 +52,37 @@ spot-within nums r n h ne = go (firstAt (atPlace nums r n) 0 64) ne
         inner true e f = omega (arith, ltb-true o 64 e)
         inner false e f = absurd (f refl)
 
+-- a symbol, an abstraction, and any other word
+pub head-symbol : (w k : ℕ) → k ≡ kindOf w → k ≡ 0 → true ≡ headKind w
+unfolding headKind
+head-symbol w k e z = rw (← e, eq-eqb k 0 z)
+
+pub head-abstraction : (w k : ℕ) → k ≡ kindOf w → (k ≡ 0 → ⊥) → eqb k 1 ≡ headKind w
+unfolding headKind
+head-abstraction w k e z = rw (← e, ne-eqb k 0 z)
+
+pub other-kind : (w : ℕ) → (kindOf w ≡ 0 → ⊥) → (kindOf w ≡ 1 → ⊥) → headKind w ≡ false
+unfolding headKind
+other-kind w a b = rw (ne-eqb (kindOf w) 0 a, ne-eqb (kindOf w) 1 b)
+
+-- a head is no pattern variable, and there is one
+pub head-not : (w : ℕ) → headKind w ≡ true → kindOf w ≡ 3 → ⊥
+head-not w h e = never (let z = other-kind w (λ a. omega (arith, e, a)) (λ a. omega (arith, e, a)) in cc)
+
+pub head-there : (w : ℕ) → headKind w ≡ true → w ≡ 33554432 → ⊥
+head-there w h e = never (let z = other-kind w (λ a. omega (arith, e, a)) (λ a. omega (arith, e, a)) in cc)
+
 pub head-none : (fixed nums : List ℕ) (r n : ℕ) → spotAt nums r n ≡ 4096 → 33554432 ≡ headWord fixed nums r n
 unfolding headWord
 head-none fixed nums r n e = rw e
 
-pub head-some : (fixed nums : List ℕ) (r n k : ℕ) → k ≡ spotAt nums r n → (k ≡ 4096 → ⊥) → getD fixed k 0 < 33554432 → getD fixed k 0 ≡ headWord fixed nums r n
+pub head-some : (fixed nums : List ℕ) (r n k : ℕ) → k ≡ spotAt nums r n → (k ≡ 4096 → ⊥) → headKind (getD fixed k 0) ≡ true → getD fixed k 0 ≡ headWord fixed nums r n
 unfolding headWord
-head-some fixed nums r n k e ne l = rw (← e, ne-eqb k 4096 ne, lt-ltb (getD fixed k 0) 33554432 l)
+head-some fixed nums r n k e ne l = rw (← e, ne-eqb k 4096 ne, l)
 
-pub head-other : (fixed nums : List ℕ) (r n k : ℕ) → k ≡ spotAt nums r n → (k ≡ 4096 → ⊥) → 33554432 ≤ getD fixed k 0 → 33554432 ≡ headWord fixed nums r n
+pub head-other : (fixed nums : List ℕ) (r n k : ℕ) → k ≡ spotAt nums r n → (k ≡ 4096 → ⊥) → headKind (getD fixed k 0) ≡ false → 33554432 ≡ headWord fixed nums r n
 unfolding headWord
-head-other fixed nums r n k e ne l = rw (← e, ne-eqb k 4096 ne, le-ltb (getD fixed k 0) 33554432 l)
+head-other fixed nums r n k e ne l = rw (← e, ne-eqb k 4096 ne, l)
 
 pub lower-zero : (marks : List ℕ) (n best : ℕ) → n ≡ 0 → best ≡ lowerOf marks n best
 unfolding lowerOf
@@ -83,13 +104,13 @@ pub lower-new : (marks : List ℕ) (n best : ℕ) → (n ≡ 0 → ⊥) → getD
 unfolding lowerOf
 lower-new marks n best a b c d = rw (ne-eqb n 0 a, eq-eqb (getD marks (64 + n - 1) 0) 0 b, ne-eqb best 0 c, le-ltb best n d)
 
-pub lowest-head : (fixed nums marks : List ℕ) (k best : ℕ) → getD fixed k 0 < 33554432 → lowerOf marks (getD nums k 0) best ≡ lowestFrom fixed nums marks k 1 best
+pub lowest-head : (fixed nums marks : List ℕ) (k best : ℕ) → headKind (getD fixed k 0) ≡ true → lowerOf marks (getD nums k 0) best ≡ lowestFrom fixed nums marks k 1 best
 unfolding lowestFrom
-lowest-head fixed nums marks k best l = rw (lt-ltb (getD fixed k 0) 33554432 l)
+lowest-head fixed nums marks k best l = rw l
 
-pub lowest-other : (fixed nums marks : List ℕ) (k best : ℕ) → 33554432 ≤ getD fixed k 0 → best ≡ lowestFrom fixed nums marks k 1 best
+pub lowest-other : (fixed nums marks : List ℕ) (k best : ℕ) → headKind (getD fixed k 0) ≡ false → best ≡ lowestFrom fixed nums marks k 1 best
 unfolding lowestFrom
-lowest-other fixed nums marks k best l = rw (le-ltb (getD fixed k 0) 33554432 l)
+lowest-other fixed nums marks k best l = rw l
 
 lowest-step : (fixed nums marks : List ℕ) (k more best : ℕ) → lowestFrom fixed nums marks k (suc more) best ≡ lowestFrom fixed nums marks (suc k) more (lowestFrom fixed nums marks k 1 best)
 unfolding lowestFrom

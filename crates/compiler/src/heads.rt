@@ -4,13 +4,16 @@ ghost use mathlib.Core.Bool.{_&&_};
 ghost use Prim.Native.Nat.{ℕ, _+_, _*_, _≤_, _<_};
 ghost use lib.Dec.{eqb};
 ghost use lib.ListN.{length, getD};
-ghost use Rattle.compiler.specs.told.Tables.{Changed, firstAt, struckRows, spotAt, headWord, lowerOf, lowestFrom, hasHead, hasOther, isOther, newHead, countHeads};
+ghost use Rattle.compiler.specs.told.Tables.{Changed, firstAt, struckRows, spotAt, headKind, headWord, lowerOf, lowestFrom, hasHead, hasOther, isOther, newHead, countHeads};
 use crate::table::ENTERED;
 use crate::table::FREE;
 use crate::table::NO_HEAD;
 use crate::table::SPOTS;
 use book::limits::MOST_RULES_LONG;
 use book::limits::MOST_SIDE;
+use term::word::ABSTRACTION;
+use term::word::SYMBOL;
+use term::word::kind_of;
 
 // The spot of a rule at the place with this number, SPOTS where it has none there.
 pub fn spot_at(nums: &[u32], r: usize, n: u32) -> usize
@@ -27,6 +30,17 @@ pub fn spot_at(nums: &[u32], r: usize, n: u32) -> usize
     SPOTS
 }
 
+// Whether a word is a symbol or an abstraction.
+fn is_head(w: u32) -> bool
+    ensures { λ b. ⌜ b ≡ headKind w ⌝ }
+{
+    let kind = kind_of(w);
+    if kind == SYMBOL {
+        return true;
+    }
+    kind == ABSTRACTION
+}
+
 // The symbol or abstraction of a rule at the place with this number.
 pub fn head_at(fixed: &[u32], nums: &[u32], r: usize, n: u32) -> u32
     requires { ⌜ (length (now fixed) ≡ 8256) × (length (now nums) ≡ 4096) × (r < 64) × (n < 4096) ⌝ }
@@ -37,7 +51,7 @@ pub fn head_at(fixed: &[u32], nums: &[u32], r: usize, n: u32) -> u32
         return NO_HEAD;
     }
     let w = fixed[k];
-    if w < NO_HEAD {
+    if is_head(w) {
         return w;
     }
     NO_HEAD
@@ -69,7 +83,7 @@ fn lower_at(fixed: &[u32], nums: &[u32], marks: &[u32], k: usize, best: u32) -> 
     requires { ⌜ (length (now fixed) ≡ 8256) × (length (now nums) ≡ 4096) × (length (now marks) ≡ 12352) × (k < 4096) × (getD (now nums) k 0 ≤ 4096) ⌝ }
     ensures { λ r. ⌜ r ≡ lowestFrom (now (fixed .entry)) (now (nums .entry)) (now (marks .entry)) k 1 best ⌝ }
 {
-    if fixed[k] < NO_HEAD {
+    if is_head(fixed[k]) {
         return lower(marks, nums[k], best);
     }
     best

@@ -5,6 +5,8 @@ ghost use lib.ListN.{length};
 ghost use Rattle.term.specs.Word.{pick};
 ghost use Rattle.compiler.specs.told.Tables.{Changed, unmarked, forgotten, firstRow};
 use book::limits::MOST_RULES_LONG;
+use term::word::KIND;
+use term::word::VARIABLE;
 
 pub const SPOTS: usize = 4096;
 
@@ -29,8 +31,8 @@ pub const FREE: u32 = 0;
 // The mark of a row that no rule of the book is.
 pub const ABSENT_ROW: u32 = 1;
 
-// Symbols and abstractions are the words below this one, which says that there is no head.
-pub const NO_HEAD: u32 = 33554432;
+// The variable 0, which the table does not have: it says that there is no head.
+pub const NO_HEAD: u32 = VARIABLE * KIND;
 
 fn without_mark(x: u32, mark: u32) -> u32
     ensures { λ r. ⌜ r ≡ pick (eqb x mark) 0 x ⌝ }

@@ -3,7 +3,6 @@ use Prim.Native.Nat.{ℕ, zero, suc, _+_, _*_, _/_, _≤_, _<_}
 use mathlib.Core.Path.{_≡_}
 use mathlib.Core.Bool.{Bool, true, false, _&&_}
 use mathlib.Core.List.{List, [], _∷_, _++_}
-use lib.Dec.{ltb}
 use lib.ListN.{length, getD}
 use lib.Seq.{sets}
 use Rattle.term.specs.declared.renumber.Passed.{Passed}
@@ -13,7 +12,7 @@ use Rattle.tree.specs.Tree.{Tree, Cases}
 use Rattle.tree.specs.Path.{OnPath, placeNumbered}
 use Rattle.tree.specs.Compile.{heads, caseRows, entering, casesOf, compile}
 use Rattle.tree.specs.Layout.{long, longCases, caseHeads, layout, layoutCases}
-use Rattle.compiler.specs.told.Tables.{manyAt, isFree, firstRow, lowestFrom, newHead, isHeadWord, isLeft, kindFrom, rowOf, firstConstraint}
+use Rattle.compiler.specs.told.Tables.{manyAt, isFree, firstRow, headKind, lowestFrom, newHead, isHeadWord, isLeft, kindFrom, rowOf, firstConstraint}
 use Rattle.compiler.specs.told.Stands.{rowsLeft, Stands, TreeReady}
 
 -- ---- the words and constraints left in the rows, counted from the tables
@@ -24,7 +23,7 @@ unentered marks (suc n) = isFree marks (64 + n)
 
 -- a head of a row that is not struck, at a place that is not entered
 abbrev pub wordLeft : List ℕ → List ℕ → List ℕ → ℕ → Bool
-wordLeft fixed nums marks k = isFree marks (k / 64) && (ltb (getD fixed k 0) 33554432 && unentered marks (getD nums k 0))
+wordLeft fixed nums marks k = isFree marks (k / 64) && (headKind (getD fixed k 0) && unentered marks (getD nums k 0))
 
 -- a constraint of a row that is not struck, not struck itself
 abbrev pub constraintLeft : List ℕ → List ℕ → ℕ → Bool

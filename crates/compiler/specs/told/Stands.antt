@@ -21,7 +21,7 @@ use Rattle.tree.specs.Rows.{RuleRow, has}
 use Rattle.tree.specs.told.Covered.{Covered, numberedAs, isOpen}
 use Rattle.tree.specs.Compile.{rowThen, compile}
 use Rattle.tree.specs.Layout.{long, layout}
-use Rattle.compiler.specs.told.Tables.{isFree}
+use Rattle.compiler.specs.told.Tables.{isFree, headKind}
 
 -- ---- the rows that are not struck, from number r on
 abbrev pub rowIf : Bool → ℕ → Option Rule → List RuleRow → List RuleRow
@@ -59,11 +59,11 @@ unfoldable pub BlankAt : List ℕ → List ℕ → ℕ → ℕ → Type 0
 BlankAt fixed nums k zero = Unit {0}
 BlankAt fixed nums k (suc more) = (getD fixed k 0 ≡ 33554432) × (getD nums k 0 ≡ 0) × BlankAt fixed nums (suc k) more
 
--- heads are below 33554432, pattern variables are not
-unfoldable pub LowWords : Left → Type 0
-LowWords end = Unit {0}
-LowWords (hole x ys rest) = (33554432 ≤ word (pattern x (length ys))) × LowWords rest
-LowWords (part h kids rest) = (word h < 33554432) × LowWords kids × LowWords rest
+-- heads are symbols and abstractions, and pattern variables are neither
+unfoldable pub HeadKinds : Left → Type 0
+HeadKinds end = Unit {0}
+HeadKinds (hole x ys rest) = (headKind (word (pattern x (length ys))) ≡ false) × HeadKinds rest
+HeadKinds (part h kids rest) = (headKind (word h) ≡ true) × HeadKinds kids × HeadKinds rest
 
 -- ---- the constraints that are struck
 -- the occurrences of a left side with their spots
@@ -94,7 +94,7 @@ pub record RowStands (fixed nums marks : List ℕ) (path : OnPath) (r vars : ℕ
   pub short : spread left ≤ 64
   pub here : LeftAt fixed nums (path .uncovered) (r * 64) [] 0 0 left
   pub blank : (more : ℕ) → spread left + more ≡ 64 → BlankAt fixed nums (r * 64 + spread left) more
-  pub low : LowWords left
+  pub kinds : HeadKinds left
   pub covered : Covered (path .uncovered) [] 0 left
   pub struck : StruckAt marks (path .held) [] (occurrencesAt (r * 64) [] 0 0 left)
 

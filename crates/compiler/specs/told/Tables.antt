@@ -2,7 +2,7 @@
 -- abstractions passed there; `nums` has for each spot one more than the number of its place, 0 where it is not uncovered; `marks` has what is struck and entered.
 use Prim.Native.Nat.{ℕ, zero, suc, _+_, _-_, _*_, _/_, _%_}
 use mathlib.Core.Path.{_≡_}
-use mathlib.Core.Bool.{Bool, true, false, _&&_}
+use mathlib.Core.Bool.{Bool, true, false, _&&_, _||_}
 use mathlib.Core.List.{List, [], _∷_, _++_}
 use lib.Dec.{eqb, ltb}
 use lib.ListN.{length, getD, set, take, drop}
@@ -56,9 +56,13 @@ spotIn r o = pick (ltb o 64) (r * 64 + o) 4096
 unfoldable pub spotAt : List ℕ → ℕ → ℕ → ℕ
 spotAt nums r n = spotIn r (firstAt (λ o. eqb (getD nums (r * 64 + o) 0) (n + 1)) 0 64)
 
--- symbols and abstractions are the words below 33554432, which stands for no head
+-- a word is a symbol or an abstraction
+unfoldable pub headKind : ℕ → Bool
+headKind w = eqb (kindOf w) 0 || eqb (kindOf w) 1
+
+-- 33554432, the variable 0, which the table does not have, stands for no head
 abbrev pub headIs : ℕ → ℕ
-headIs w = pick (ltb w 33554432) w 33554432
+headIs w = pick (headKind w) w 33554432
 
 unfoldable pub headWord : List ℕ → List ℕ → ℕ → ℕ → ℕ
 headWord fixed nums r n = pick (eqb (spotAt nums r n) 4096) 33554432 (headIs (getD fixed (spotAt nums r n) 0))
@@ -69,7 +73,7 @@ lowerOf marks n best =
     pick (eqb n 0) best (pick (eqb (getD marks (64 + n - 1) 0) 0) (pick (eqb best 0) n (pick (ltb best n) best n)) best)
 
 abbrev pub lowerAt : List ℕ → List ℕ → List ℕ → ℕ → ℕ → ℕ
-lowerAt fixed nums marks k best = pick (ltb (getD fixed k 0) 33554432) (lowerOf marks (getD nums k 0) best) best
+lowerAt fixed nums marks k best = pick (headKind (getD fixed k 0)) (lowerOf marks (getD nums k 0) best) best
 
 -- the lowest of what the spots from k on have, and of the best so far
 unfoldable pub lowestFrom : List ℕ → List ℕ → List ℕ → ℕ → ℕ → ℕ → ℕ

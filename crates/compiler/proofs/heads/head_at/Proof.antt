@@ -25,14 +25,14 @@ shared-slice-read-w c =
 
 returns-2 : tie.Need-returns-2
 returns-2 c =
-    let start = c .before .before .before .before .before .before in
-    head-some (start .args .fixed .now) (start .args .nums .now) (start .args .r) (start .args .n) _ (c .before .before .before .spot-at .ensures) (c .before .before .if1 .left) (c .if2 .taken)
+    let start = c .before .before .before .before .before .before .before in
+    head-some (start .args .fixed .now) (start .args .nums .now) (start .args .r) (start .args .n) _ (c .before .before .before .before .spot-at .ensures) (c .before .before .before .if1 .left) (sym (c .before .is-head .ensures) ∙ c .if2 .taken)
 
 returns-3 : tie.Need-returns-3
 returns-3 c =
-    let start = c .before .before .before .before .before .before in
-    head-other (start .args .fixed .now) (start .args .nums .now) (start .args .r) (start .args .n) _ (c .before .before .before .spot-at .ensures) (c .before .before .if1 .left) (c .if2 .left)
+    let start = c .before .before .before .before .before .before .before in
+    head-other (start .args .fixed .now) (start .args .nums .now) (start .args .r) (start .args .n) _ (c .before .before .before .before .spot-at .ensures) (c .before .before .before .if1 .left) (sym (c .before .is-head .ensures) ∙ c .if2 .left)
 
 pub head-at-spec : {M : Type 1} → statement M
 head-at-spec =
-    tie.close (tie.spec (λ c κs. search needs) returns mul-w shared-slice-read-w returns-2 returns-3)
+    tie.close (tie.spec (λ c κs. search needs) returns mul-w shared-slice-read-w (λ c κs. search needs) returns-2 returns-3)

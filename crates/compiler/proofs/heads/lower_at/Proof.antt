@@ -8,13 +8,13 @@ use Rattle.compiler.proofs.heads.lower_at.Tie as tie
 
 returns : tie.Need-returns
 returns c =
-    let start = c .before .before .before .before .before .before .before in
-    c .lower .ensures ∙ lowest-head (start .args .fixed .now) (start .args .nums .now) (start .args .marks .now) (start .args .k) (start .args .best) (c .before .before .if1 .taken)
+    let start = c .before .before .before .before .before .before .before .before in
+    c .lower .ensures ∙ lowest-head (start .args .fixed .now) (start .args .nums .now) (start .args .marks .now) (start .args .k) (start .args .best) (sym (c .before .before .before .is-head .ensures) ∙ c .before .before .if1 .taken)
 
 returns-2 : tie.Need-returns-2
 returns-2 c =
-    let start = c .before .before .before .before .before in
-    lowest-other (start .args .fixed .now) (start .args .nums .now) (start .args .marks .now) (start .args .k) (start .args .best) (c .if1 .left)
+    let start = c .before .before .before .before .before .before in
+    lowest-other (start .args .fixed .now) (start .args .nums .now) (start .args .marks .now) (start .args .k) (start .args .best) (sym (c .before .is-head .ensures) ∙ c .if1 .left)
 
 pub lower-at-spec : {M : Type 1} → statement M
 lower-at-spec =
@@ -22,6 +22,7 @@ lower-at-spec =
     (tie.spec
     (λ c. search needs)
     (λ c. search needs)
+    (λ c κs. search needs)
     (λ c. search needs)
     (λ c. search needs)
     (λ c κs. search needs)
