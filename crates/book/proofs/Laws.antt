@@ -18,3 +18,5 @@ pub use Rattle.book.proofs.Above.{words-rule, rule-words, judge-end, ju
 pub use Rattle.book.proofs.FirstBad.{BadWithin, bad-within}
 -- A book is accepted just where it is good, and else its answer is a refusal.
 pub use Rattle.book.proofs.Accepting.{good-accepted, bad-refused, accepted-good, refusal-number, check-book-is}
+-- A book as the list of its rules: good where each is sound and there are at most 64, refused where one is not or there are more.
+pub use Rattle.book.proofs.Listed.{Whole, AllWhole, AllSound, whole-words, together-nothing, together-rule, book-words, sound-book, many-refused, unsound-refused, book-sound}

@@ -11,4 +11,5 @@ mod Above
 mod FirstBad
 mod Computed
 mod Accepting
+mod Listed
 pub mod Laws

@@ -18,7 +18,7 @@ use Rattle.book.specs.declared.book.Sides.{Sides}
 use Rattle.book.specs.declared.book.Found.{Found}
 use Rattle.book.specs.declared.book.Found.the-variants as found
 use Rattle.book.specs.Rule.{goodRule}
-use Rattle.book.specs.Book.{Rule, ruleOf, judged, goodNext, afterNext, judge, checkBook}
+use Rattle.book.specs.Book.{Rule, ruleOf, judged, goodNext, afterNext, judge, checkBook, sound}
 use Rattle.book.specs.told.Found.{sidesOf, placed, endNext, seek, sidesAt}
 
 -- ---- one rule
@@ -148,6 +148,16 @@ rule-placed ws at s e = go (ruleOf (drop at ws)) refl (lying ws at) e
 pub none-placed : (at : ℕ) (o : Option (Rule × List ℕ)) → found.None ≡ placed at o → o ≡ none
 none-placed at none e = refl
 none-placed at (some p) e = never (cc)
+
+-- ---- one rule alone
+pub unsound : (ws : List ℕ) → found.None ≡ placed 0 (ruleOf (drop 0 ws)) → false ≡ sound ws
+unfolding sound
+unsound ws e = rw (none-placed 0 (ruleOf ws) e)
+
+pub sound-so : (ws : List ℕ) (s : Sides) (r : Bool) → Placed ws 0 s → r ≡ goodRule (s .vars) (take (s .right - s .left) (drop (s .left) ws)) (take (s .end - s .right) (drop (s .right) ws))
+    → r ≡ sound ws
+unfolding sound
+sound-so ws s r p e = rw (p .is, p .vars-is, p .left-is, p .right-is) e
 
 -- ---- the search
 pub seek-nothing : (at number : ℕ) → seek at number [] ≡ found.None

@@ -2,7 +2,7 @@
 use Prim.Native.Nat.{ℕ, zero, suc, _+_, _≤_}
 use mathlib.Core.Path.{_≡_}
 use mathlib.Core.Bool.{Bool, true, false, _&&_}
-use mathlib.Core.List.{List, [], _∷_}
+use mathlib.Core.List.{List, [], _∷_, _++_}
 use mathlib.Core.Option.{Option, none, some}
 use lib.ListN.{length, take, drop}
 use lib.Dec.{leb, ltb}
@@ -62,3 +62,15 @@ nthRule (suc more) (suc number) ws = nthRule more number (afterNext (ruleOf ws))
 unfoldable pub ruleAt : List ℕ → ℕ → Option Rule
 ruleAt [] number = none
 ruleAt (n ∷ ws) number = nthRule n number ws
+
+-- ---- a book as a list of its rules, each in words
+-- the words begin with a rule, and it keeps the book rules
+unfoldable pub sound : List ℕ → Bool
+sound ws = goodNext (ruleOf ws)
+
+unfoldable pub together : List (List ℕ) → List ℕ
+together [] = []
+together (rule ∷ rules) = rule ++ together rules
+
+unfoldable pub bookOf : List (List ℕ) → List ℕ
+bookOf rules = length rules ∷ together rules

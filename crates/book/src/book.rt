@@ -1,7 +1,7 @@
 // A book in memory: its check, and where a rule's sides lie in it.
 ghost use mathlib.Core.Path.{_≡_};
 ghost use lib.ListN.{drop};
-ghost use Rattle.book.specs.Book.{ruleOf, checkBook};
+ghost use Rattle.book.specs.Book.{ruleOf, checkBook, sound};
 ghost use Rattle.book.specs.told.Found.{placed, sidesAt};
 use crate::limits::MOST_RULES_LONG;
 use crate::rule::good_rule;
@@ -47,6 +47,19 @@ fn sides_from(words: &[u32], at: usize) -> Found
         right: right,
         end: right + right_size,
     })
+}
+
+// Whether the words begin with a rule that keeps the book rules.
+pub fn sound_rule(words: &[u32]) -> bool
+    ensures { λ r. ⌜ r ≡ sound (now (words .entry)) ⌝ }
+{
+    let Found::Rule(sides) = sides_from(words, 0) else {
+        return false;
+    };
+    let left = sides.left;
+    let right = sides.right;
+    let end = sides.end;
+    good_rule(sides.vars, &words[left..right], &words[right..end])
 }
 
 // Good where the words are a book, else the first bad rule.
