@@ -19,6 +19,8 @@ pub use Rattle.text.proofs.Answers.{write-bad-book, write-long-book, wr
 pub use Rattle.text.proofs.Inverse.{TermWrittenRead, term-written-read, TermReadWritten, term-read-written, BookWrittenRead, book-written-read, BookReadWritten, book-read-written, one-term-read, one-book-read}
 -- A term is accepted just where it is good.
 pub use Rattle.text.proofs.Givens.{good-term, bad-term, sound-term}
+-- What is given into a cleared slice.
+pub use Rattle.text.proofs.Givens.{given-short, given-done}
 -- Good words end by themselves.
 pub use Rattle.text.proofs.Fronts.{term-ends, term-front, book-front}
 -- What reading from an offset tells settles its answer.
@@ -29,5 +31,10 @@ pub use Rattle.text.proofs.Outcomes.{read-book-gives, read-book-said, r
 -- A line of a key and a number before what follows it, and its length; of a book's lines, the number of its rules and the last that can be bad.
 pub use Rattle.text.proofs.Above.{number-text-before, number-text-short, book-counted, book-bad}
 -- What is written one after the other is written as one; words that were put into a slice are its first.
-pub use Rattle.text.proofs.Wrote.{Wrote, wrote-then}
+pub use Rattle.text.proofs.Wrote.{Wrote, wrote-nothing, wrote-then, wrote-byte}
+pub use Rattle.text.proofs.KindTexts.{decimal-short}
 pub use Rattle.text.proofs.TermTexts.{first-words}
+-- A book by mail: one rule and then the rest; what is known of all rules present and of a bad line; each way through the reading; a book's own text.
+pub use Rattle.text.proofs.Mailed.{rule-whole, line-within, present-end, present-bad, present-more, MailFacts, mail-facts, mail-line, mail-bytes, mail-long, mail-no-book, mail-no-count, mail-stating, book-mail}
+-- The numbers of the answers are small; a block of few bytes, and that what was written one after the other is one.
+pub use Rattle.text.proofs.Refusals.{number-small, Brief, as-block}

@@ -24,4 +24,6 @@ mod Fronts
 mod Inverse
 mod ToldSettled
 mod Above
+mod Mailed
+mod Refusals
 pub mod Laws

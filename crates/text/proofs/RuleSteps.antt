@@ -10,31 +10,47 @@ use Rattle.text.specs.declared.line.Line.the-variants as lines
 use Rattle.text.specs.declared.number.Number.the-variants as numbers
 use Rattle.text.specs.declared.rule_text.Rules as declared
 use Rattle.text.specs.declared.rule_text.Rules.the-variants as rules
+use Rattle.text.specs.declared.rule_text.Vars.{Vars}
 use Rattle.text.specs.declared.rule_text.Vars.the-variants as vars
 use Rattle.text.specs.BookText.{ruleKey, varsKey, leftKey, rightKey, Rules, rulesAre, badAt, ruleRead, behind, thenRules, rulesRead}
-use Rattle.text.specs.told.BookTold.{NumberLineTold, SideTold, sidesRead, VarsTold, RulesTold}
+use Rattle.text.specs.Mail.{anyRuleRead}
+use Rattle.text.specs.told.BookTold.{NumberLineTold, SideTold, sidesRead, varsRead, VarsTold, RulesTold}
 use Rattle.text.proofs.BookLines.{side-line-is}
 use Rattle.text.proofs.Wrote.{sets-append}
 
 -- ---- the lines `rule=` and `vars=`
 module _ (number : ℕ) (bs : List ℕ) (at : ℕ) where
+  pub no-vars : NumberLineTold varsKey 16 bs at numbers.None → varsRead number (drop at bs) ≡ badAt (4 * number + 4)
+  no-vars t = rw t
+
+  pub vars-there : (v next : ℕ) → NumberLineTold varsKey 16 bs at (numbers.Read v next) → VarsTold (varsRead number) number bs at (vars.Read v next)
+  vars-there v next t = (rw (t .0), t .3)
+
   pub no-rule : NumberLineTold ruleKey 63 bs at numbers.None → ruleRead number (drop at bs) ≡ badAt (4 * number + 3)
   unfolding ruleRead
   no-rule t = rw t
 
-  module _ (k a : ℕ) (t : NumberLineTold ruleKey 63 bs at (numbers.Read k a)) where
-    pub other-rule : (k ≡ number → ⊥) → ruleRead number (drop at bs) ≡ badAt (4 * number + 3)
+  pub any-no-rule : NumberLineTold ruleKey 65535 bs at numbers.None → anyRuleRead number (drop at bs) ≡ badAt (4 * number + 3)
+  unfolding anyRuleRead
+  any-no-rule t = rw t
+
+  module _ (k a : ℕ) where
+    pub other-rule : NumberLineTold ruleKey 63 bs at (numbers.Read k a) → (k ≡ number → ⊥) → ruleRead number (drop at bs) ≡ badAt (4 * number + 3)
     unfolding ruleRead
-    other-rule e = rw (t .0, ne-eqb k number e)
+    other-rule t e = rw (t .0, ne-eqb k number e)
 
-    module _ (e : k ≡ number) where
-      pub no-vars : NumberLineTold varsKey 16 bs a numbers.None → ruleRead number (drop at bs) ≡ badAt (4 * number + 4)
-      unfolding ruleRead
-      no-vars u = rw (t .0, eq-eqb k number e, u)
+    -- where the line `rule=` is read, its reading goes on with `vars=`
+    vars-left : (o : List ℕ → Rules) → o (drop at bs) ≡ varsRead number (drop a bs) → (r : Vars) → VarsTold (varsRead number) number bs a r → VarsTold o number bs at r
+    vars-left o e (vars.Read v next) t = (e ∙ t .0, t .1)
+    vars-left o e (vars.Bad line) t = e ∙ t
 
-      pub vars-there : (v next : ℕ) → NumberLineTold varsKey 16 bs a (numbers.Read v next) → VarsTold number bs at (vars.Read v next)
-      unfolding ruleRead
-      vars-there v next u = (rw (t .0, eq-eqb k number e, u .0), u .3)
+    pub rule-left : NumberLineTold ruleKey 63 bs at (numbers.Read k a) → k ≡ number → (r : Vars) → VarsTold (varsRead number) number bs a r → VarsTold (ruleRead number) number bs at r
+    unfolding ruleRead
+    rule-left t e r u = vars-left (ruleRead number) (rw (t .0, eq-eqb k number e)) r u
+
+    pub any-left : NumberLineTold ruleKey 65535 bs at (numbers.Read k a) → (r : Vars) → VarsTold (varsRead number) number bs a r → VarsTold (anyRuleRead number) number bs at r
+    unfolding anyRuleRead
+    any-left t r u = vars-left (anyRuleRead number) (rw (t .0)) r u
 
 -- ---- the header of a rule, before sides that lie behind it
 set-past : (vs l : List ℕ) (i j a : ℕ) → j < i → set (sets l i vs) j a ≡ sets (set l j a) i vs
@@ -85,10 +101,10 @@ module _ (number v : ℕ) (bs : List ℕ) (at to : ℕ) (out : List ℕ) where
         omega (arith, left-few, right-few),
       )
 
-pub rule-there : (number v : ℕ) (bs : List ℕ) (at a to : ℕ) (out done : List ℕ) (r : declared.Rules) → VarsTold number bs at (vars.Read v a)
-    → RulesTold (sidesRead number v) 131 bs a to out done r → RulesTold (ruleRead number) 131 bs at to out done r
-rule-there number v bs at a to out done (rules.Words n next) t u = (u .0, t .0 ∙ u .1, u .2, u .3, u .4, u .5)
-rule-there number v bs at a to out done (rules.Bad line) t u = t .0 ∙ u
+pub rule-there : (o : List ℕ → Rules) (number v : ℕ) (bs : List ℕ) (at a to : ℕ) (out done : List ℕ) (r : declared.Rules) → VarsTold o number bs at (vars.Read v a)
+    → RulesTold (sidesRead number v) 131 bs a to out done r → RulesTold o 131 bs at to out done r
+rule-there o number v bs at a to out done (rules.Words n next) t u = (u .0, t .0 ∙ u .1, u .2, u .3, u .4, u .5)
+rule-there o number v bs at a to out done (rules.Bad line) t u = t .0 ∙ u
 
 -- ---- rules one after the other
 behind-behind : (ws vs : List ℕ) (o : Rules) → behind ws (behind vs o) ≡ behind (ws ++ vs) o

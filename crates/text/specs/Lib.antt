@@ -5,4 +5,6 @@ pub mod Token
 pub mod Line
 pub mod TermText
 pub mod BookText
+pub mod Mail
+pub mod Refusal
 pub mod told

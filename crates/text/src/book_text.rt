@@ -26,9 +26,9 @@ use term::lent::put;
 pub const BOOK: usize = 8385;
 
 // The first two lines of a book.
-const BOOK_LINE: usize = 1;
+pub const BOOK_LINE: usize = 1;
 
-const COUNT_LINE: usize = 2;
+pub const COUNT_LINE: usize = 2;
 
 // Reads the lines of a book from `at` on; its words go into `out`.
 pub fn read_lines(text: &[u8], at: usize, out: &mut [u32]) -> Rules

@@ -3,7 +3,7 @@ ghost use mathlib.Core.Path.{_≡_};
 ghost use Prim.Native.Nat.{_+_, _≤_};
 ghost use lib.ListN.{length, set};
 ghost use Rattle.text.specs.BookText.{ruleRead, rulesRead};
-ghost use Rattle.text.specs.told.BookTold.{VarsTold, sidesRead, RulesTold};
+ghost use Rattle.text.specs.told.BookTold.{varsRead, VarsTold, sidesRead, RulesTold};
 use crate::key::read_number_line;
 use crate::key::read_side;
 use crate::line::Line;
@@ -39,10 +39,21 @@ pub enum Vars {
     Bad(usize),
 }
 
+// Reads the line `vars=` of the rule with this number.
+pub fn read_vars_line(text: &[u8], at: usize, number: usize) -> Vars
+    requires { ⌜ (at ≤ length (now text)) × (number ≤ 65536) ⌝ }
+    ensures { λ r. ⌜ VarsTold (varsRead number) number (now (text .entry)) at r ⌝ }
+{
+    let Number::Read(vars, next) = read_number_line(text, at, b"vars=", MOST_VARS) else {
+        return Vars::Bad(LINES * number + VARS_LINE);
+    };
+    Vars::Read(vars, next)
+}
+
 // Reads the lines `rule=` and `vars=` of the rule with this number.
 fn read_vars(text: &[u8], at: usize, number: usize) -> Vars
     requires { ⌜ (at ≤ length (now text)) × (number ≤ 63) ⌝ }
-    ensures { λ r. ⌜ VarsTold number (now (text .entry)) at r ⌝ }
+    ensures { λ r. ⌜ VarsTold (ruleRead number) number (now (text .entry)) at r ⌝ }
 {
     let Number::Read(k, vars_at) = read_number_line(text, at, b"rule=", LAST_RULE) else {
         return Vars::Bad(LINES * number + RULE_LINE);
@@ -50,10 +61,7 @@ fn read_vars(text: &[u8], at: usize, number: usize) -> Vars
     if k as usize != number {
         return Vars::Bad(LINES * number + RULE_LINE);
     }
-    let Number::Read(vars, next) = read_number_line(text, vars_at, b"vars=", MOST_VARS) else {
-        return Vars::Bad(LINES * number + VARS_LINE);
-    };
-    Vars::Read(vars, next)
+    read_vars_line(text, vars_at, number)
 }
 
 // Puts what stands before the sides of a rule.
@@ -67,8 +75,15 @@ fn put_header(out: &mut [u32], to: usize, vars: u32, left: usize, right: usize)
 }
 
 // Reads the lines `left=` and `right=`; the words of the rule go into `out` from `to` on.
-fn read_sides(text: &[u8], at: usize, number: usize, vars: u32, out: &mut [u32], to: usize) -> Rules
-    requires { ⌜ (at ≤ length (now text)) × (number ≤ 63) × (to ≤ 60000) ⌝ }
+pub fn read_sides(
+    text: &[u8],
+    at: usize,
+    number: usize,
+    vars: u32,
+    out: &mut [u32],
+    to: usize,
+) -> Rules
+    requires { ⌜ (at ≤ length (now text)) × (number ≤ 65536) × (to ≤ 60000) ⌝ }
     ensures { λ r. ⌜ RulesTold (sidesRead number vars) 131 (now (text .entry)) at to (now (out .entry)) (now (out .exit)) r ⌝ }
 {
     let Line::Words(left, right_at) = read_side(text, at, b"left=", out, to + 3) else {

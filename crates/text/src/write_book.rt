@@ -98,7 +98,7 @@ fn write_rules(out: &mut [u8], at: usize, book: &[u32]) -> usize
 }
 
 // Writes an accepted book; the offset after its text.
-fn write_good(book: &[u32], out: &mut [u8]) -> usize
+pub fn write_good(book: &[u32], out: &mut [u8]) -> usize
     requires { ⌜ checkBook (now book) ≡ Good ⌝ }
     ensures { λ r. ⌜ (r ≡ 0 + length (bookText (now (book .entry)))) × (now (out .exit) ≡ sets (now (out .entry)) 0 (bookText (now (book .entry)))) ⌝ }
 {

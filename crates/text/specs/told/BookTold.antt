@@ -15,7 +15,7 @@ use Rattle.text.specs.declared.rule_text.Vars.{Vars}
 use Rattle.text.specs.declared.rule_text.Vars.the-variants as vars
 use Rattle.text.specs.declared.rule_text.Rules.the-variants as rules
 use Rattle.text.specs.told.Told.{NumberIs}
-use Rattle.text.specs.BookText.{leftKey, keyed, numberLine, sideLine, Rules, rulesAre, badAt, leftThen, ruleRead}
+use Rattle.text.specs.BookText.{varsKey, leftKey, keyed, numberLine, sideLine, Rules, rulesAre, badAt, leftThen, varsThen}
 
 -- the key stands at the offset `at` of a text
 abbrev pub KeyTold : List ℕ → List ℕ → ℕ → Key → Type 0
@@ -41,7 +41,11 @@ RulesTold o most bs at to out done (rules.Bad line) = o (drop at bs) ≡ badAt l
 abbrev pub sidesRead : ℕ → ℕ → List ℕ → Rules
 sidesRead number v bs = leftThen number v (sideLine leftKey bs)
 
--- what the lines `rule=` and `vars=` leave to read
-abbrev pub VarsTold : ℕ → List ℕ → ℕ → Vars → Type 0
-VarsTold number bs at (vars.Read v next) = (ruleRead number (drop at bs) ≡ sidesRead number v (drop next bs)) × (next ≤ length bs)
-VarsTold number bs at (vars.Bad line) = ruleRead number (drop at bs) ≡ badAt line
+-- the lines of a rule from `vars=` on
+abbrev pub varsRead : ℕ → List ℕ → Rules
+varsRead number bs = varsThen number (numberLine varsKey 16 bs)
+
+-- what the lines up to `vars=`, as the reading o has them, leave to read
+abbrev pub VarsTold : (List ℕ → Rules) → ℕ → List ℕ → ℕ → Vars → Type 0
+VarsTold o number bs at (vars.Read v next) = (o (drop at bs) ≡ sidesRead number v (drop next bs)) × (next ≤ length bs)
+VarsTold o number bs at (vars.Bad line) = o (drop at bs) ≡ badAt line

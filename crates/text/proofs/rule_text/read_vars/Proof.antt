@@ -3,9 +3,9 @@ use borrow.Author.Needs.{needs}
 use native.Mathlib.Omega.{arith}
 use mathlib.Core.Path.{_≡_}
 use Rattle.text.specs.declared.number.Number.the-variants as numbers
-use Rattle.text.specs.BookText.{ruleKey, varsKey}
+use Rattle.text.specs.BookText.{ruleKey}
 use Rattle.text.specs.told.BookTold.{NumberLineTold}
-use Rattle.text.proofs.RuleSteps.{no-rule, other-rule, no-vars, vars-there}
+use Rattle.text.proofs.RuleSteps.{no-rule, other-rule, rule-left}
 use Rattle.text.proofs.rule_text.read_vars.Statement.{statement}
 use Rattle.text.proofs.rule_text.read_vars.Tie as tie
 
@@ -19,18 +19,13 @@ told c = rw (c .before .k .given .1) at (c .before .before .before .read-number-
 returns-2 : tie.Need-returns-2
 returns-2 c = let s = c .before .before .before .before .before .before .before .args in other-rule (s .number) (s .text .now) (s .at) _ _ (told (c .before)) (c .if1 .taken)
 
-read-number-line-requires-2 : tie.Need-read-number-line-requires-2
-read-number-line-requires-2 c κs = (told (c .before .before) .3, omega arith)
+read-vars-line-requires : tie.Need-read-vars-line-requires
+read-vars-line-requires c κs = (told (c .before) .3, omega (arith, c .before .before .before .before .before .before .before .pre))
 
 returns-3 : tie.Need-returns-3
 returns-3 c =
-    let s = c .before .before .before .before .before .before .before .before .before .before .before .args in
-    no-vars (s .number) (s .text .now) (s .at) _ _ (told (c .before .before .before .before .before)) (c .before .before .before .before .if1 .left) (rw (c .enum-told2 .given .1) at (c .before .before .read-number-line2 .ensures))
-
-returns-4 : tie.Need-returns-4
-returns-4 c =
-    let s = c .before .before .before .before .before .before .before .before .before .before .before .before .args in
-    vars-there (s .number) (s .text .now) (s .at) _ _ (told (c .before .before .before .before .before .before)) (c .before .before .before .before .before .if1 .left) _ (c .before .vars .given .0 .1 .0) (rw (c .before .vars .given .1) at (c .before .before .before .read-number-line2 .ensures))
+    let s = c .before .before .before .before .before .before .before .before .args in
+    rule-left (s .number) (s .text .now) (s .at) _ (c .before .before .before .k .given .0 .1 .0) (told (c .before .before)) (c .before .if1 .left) (c .read-vars-line .result) (c .read-vars-line .ensures)
 
 pub read-vars-spec : {M : Type 1} → statement M
 read-vars-spec =
@@ -47,11 +42,5 @@ read-vars-spec =
     (λ c. omega arith)
     (λ c. omega arith)
     returns-2
-    (λ c. search needs)
-    read-number-line-requires-2
-    (λ c. search needs)
-    (λ c. search needs)
-    (λ c. omega arith)
-    (λ c. omega arith)
-    returns-3
-    returns-4)
+    read-vars-line-requires
+    returns-3)
