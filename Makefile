@@ -1,5 +1,5 @@
-# The commands of the project: `make run < FILE`, `make test`, `make soak`, `make bench`.
-.PHONY: run test soak bench
+# The commands of the project: `make run < FILE`, `make repair < FILE`, `make test`, `make soak`, `make bench`.
+.PHONY: run repair test soak bench
 
 # How long `make soak` goes on, in seconds; 0 is for ever.
 SECONDS ?= 600
@@ -10,9 +10,12 @@ sources := crates.txt $(shell find crates -name '*.rt' -o -name '*.antt')
 run: target/bin/simplify
 	@target/bin/simplify
 
-target/bin/simplify: $(sources)
-	@echo 'make: proving and building simplify' >&2
-	@rt check simplify </dev/null >&2
+repair: target/bin/repair
+	@target/bin/repair
+
+target/bin/simplify target/bin/repair: target/bin/%: $(sources)
+	@echo 'make: proving and building $*' >&2
+	@rt check $* </dev/null >&2
 	@touch $@
 
 # Every crate proved, every must-fail edit refused, every program run, then the tests.

@@ -1,48 +1,19 @@
 -- The blocks are their lines one after the other, and each line is short.
 use mathlib.Core.Path.{_≡_, sym, ap, _∙_}
 use mathlib.Core.List.{List, [], _++_, append-assoc, append-nil}
-use Prim.Native.Nat.{ℕ, _+_, _≤_}
+use Prim.Native.Nat.{ℕ, _≤_}
 use native.Mathlib.Omega.{arith}
-use lib.ListN.{length, length-append}
-use lib.Seq.{sets}
+use lib.ListN.{length-append}
 use Rattle.term.specs.declared.answer.Answer.{Answer}
-use Rattle.term.specs.declared.answer.Answer.the-variants as answers
-use Rattle.term.specs.Answer.{numberOf, placeOf}
+use Rattle.term.specs.Answer.{numberOf}
 use Rattle.text.specs.BookText.{bookLine, rulesKey, numberText}
-use Rattle.text.proofs.Laws.{number-text-before, number-text-short, Wrote, wrote-then}
+use Rattle.text.specs.Refusal.{answerKey}
+use Rattle.text.proofs.Laws.{number-text-before, number-text-short, Wrote, wrote-then, number-small, Brief, as-block}
 use Rattle.simplify.specs.File.{termKey}
-use Rattle.simplify.specs.Printed.{treeKey, answerKey, stepsKey, resultKey, atKey, refusalBlock, headText, answerText}
-
-pub number-small : (a : Answer) → numberOf a ≤ 16
-number-small answers.Done = omega arith
-number-small answers.NoFit = omega arith
-number-small answers.BudgetUsed = omega arith
-number-small (answers.BadText at) = omega arith
-number-small (answers.BadTerm at) = omega arith
-number-small (answers.BadBook at) = omega arith
-number-small answers.Short = omega arith
-number-small (answers.Damaged at) = omega arith
-number-small answers.Over = omega arith
-number-small (answers.NoRule at) = omega arith
-
--- a block of few bytes
-abbrev pub Short : List ℕ → List ℕ → List ℕ → ℕ → Type 0
-Short block out done n = (n ≡ length block) × (done ≡ sets out 0 block) × (n ≤ 100)
-
-as-block : (block text out done : List ℕ) (n : ℕ) → text ≡ block → length text ≤ 100 → Wrote out 0 n done text → Short block out done n
-as-block block text out done n e h w = (rw (sym e) (omega (arith, w .0)), w .1 ∙ ap (sets out 0) e, omega (arith, w .0))
-
-pub refusal-wrote : (a : Answer) (out m1 done : List ℕ) (at end : ℕ) → placeOf a ≤ 70000 → Wrote out 0 at m1 (numberText answerKey (numberOf a) []) → Wrote m1 at end done (numberText atKey (placeOf a) [])
-    → Short (refusalBlock a) out done end
-unfolding refusalBlock
-refusal-wrote a out m1 done at end h p q =
-    as-block (numberText answerKey (numberOf a) (numberText atKey (placeOf a) [])) (numberText answerKey (numberOf a) [] ++ numberText atKey (placeOf a) []) out done end
-    (number-text-before answerKey (numberOf a) (numberText atKey (placeOf a) []))
-    (rw length-append (omega (arith, number-small a, number-text-short answerKey (numberOf a) (omega (arith, number-small a)), number-text-short atKey (placeOf a) (omega arith))))
-    (wrote-then out 0 at end m1 done (numberText answerKey (numberOf a) []) (numberText atKey (placeOf a) []) p q)
+use Rattle.simplify.specs.Printed.{treeKey, stepsKey, resultKey, headText, answerText}
 
 pub head-wrote : (rules tree : ℕ) (out m1 m2 done : List ℕ) (a b end : ℕ) → rules ≤ 64 → tree ≤ 16384 → Wrote out 0 a m1 bookLine → Wrote m1 a b m2 (numberText rulesKey rules [])
-    → Wrote m2 b end done (numberText treeKey tree []) → Short (headText rules tree) out done end
+    → Wrote m2 b end done (numberText treeKey tree []) → Brief (headText rules tree) out done end
 unfolding headText
 head-wrote rules tree out m1 m2 done a b end h k p q r =
     as-block (bookLine ++ numberText rulesKey rules (numberText treeKey tree [])) (bookLine ++ (numberText rulesKey rules [] ++ numberText treeKey tree [])) out done end
@@ -64,7 +35,7 @@ answer-before term a steps rest =
     ap (λ (x : List ℕ). x ++ rest) (sym (answer-lines term a steps [])) ∙ simp (append-assoc, append-nil) (answer-lines term a steps rest)
 
 pub answer-wrote : (term : ℕ) (a : Answer) (steps : ℕ) (out m1 m2 m3 done : List ℕ) (x y z end : ℕ) → term ≤ 65536 → steps ≤ 65535 → Wrote out 0 x m1 (numberText termKey term [])
-    → Wrote m1 x y m2 (numberText answerKey (numberOf a) []) → Wrote m2 y z m3 (numberText stepsKey steps []) → Wrote m3 z end done resultKey → Short (answerText term a steps []) out done end
+    → Wrote m1 x y m2 (numberText answerKey (numberOf a) []) → Wrote m2 y z m3 (numberText stepsKey steps []) → Wrote m3 z end done resultKey → Brief (answerText term a steps []) out done end
 answer-wrote term a steps out m1 m2 m3 done x y z end h k p q r s =
     let last = resultKey ++ [] in
     as-block (answerText term a steps []) (numberText termKey term [] ++ (numberText answerKey (numberOf a) [] ++ (numberText stepsKey steps [] ++ (resultKey ++ [])))) out done end

@@ -15,7 +15,7 @@ use Rattle.text.proofs.Laws.{first-words}
 use Rattle.simplify.specs.declared.first.First.{First}
 use Rattle.simplify.specs.declared.next.Next.{Next}
 use Rattle.simplify.specs.File.{termLine, termsAre, termsRead, fileSaid}
-use Rattle.simplify.specs.Printed.{refused, termBlock, termBlocks, fileBook, fileTerms, firstBlock, blocks}
+use Rattle.simplify.specs.Printed.{termBlock, termBlocks, fileBook, fileTerms, firstBlock, blocks}
 use Rattle.simplify.specs.told.Told.{BlockTold, NextTold, Ready, FirstTold}
 use Rattle.simplify.proofs.Lines.{Standing, none-left, one-left, standing}
 

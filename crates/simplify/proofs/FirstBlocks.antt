@@ -20,10 +20,11 @@ use Rattle.book.proofs.Laws.{BadWithin, bad-within}
 use Rattle.tree.specs.Layout.{treeWords}
 use Rattle.compiler.specs.Compiled.{hasRoom, compiledAnswer, compileAnswer, compileWords, compileLength}
 use Rattle.compiler.proofs.Laws.{TreeMade, done-made, compile-answer}
+use Rattle.text.specs.Refusal.{refused, refusalBlock}
+use Rattle.text.proofs.Laws.{Brief}
 use Rattle.simplify.specs.declared.first.First.{First}
-use Rattle.simplify.specs.Printed.{refused, refusalBlock, headText}
+use Rattle.simplify.specs.Printed.{headText}
 use Rattle.simplify.specs.told.Told.{FileRead, HeadReady, HeadTold, Ready, FirstTold}
-use Rattle.simplify.proofs.BlockTexts.{Short}
 use Rattle.simplify.proofs.Inputs.{BadFile}
 
 -- ---- what compiling a book answers
@@ -57,7 +58,7 @@ module _ (book : List ℕ) (at : ℕ) (tree out done : List ℕ) (a : Answer) (e
   pub made : numberOf a < 10 → TreeMade 16384 book
   made h = done-made 16384 book (is-done 16384 book (rw e at h))
 
-  pub head-refused : (n : ℕ) (r : First) → 10 ≤ numberOf a → Short (refusalBlock a) out done n → (r .length ≡ n) × (r .refused ≡ true) → HeadTold book at tree out done r
+  pub head-refused : (n : ℕ) (r : First) → 10 ≤ numberOf a → Brief (refusalBlock a) out done n → (r .length ≡ n) × (r .refused ≡ true) → HeadTold book at tree out done r
   head-refused n r h s f =
       record {
         block = rw (sym e, le-leb 10 (numberOf a) h) (f .0 ∙ s .0, s .1, omega (arith, f .0, s .2));
@@ -65,7 +66,7 @@ module _ (book : List ℕ) (at : ℕ) (tree out done : List ℕ) (a : Answer) (e
         ready = λ q. let z : true ≡ false = sym (f .1) ∙ q in never (cc);
       }
 
-  pub head-made : (n words : ℕ) → numberOf a < 10 → tree ≡ compileWords 16384 book → words ≡ compileLength 16384 book → Short (headText (getD book 0 0) words) out done n
+  pub head-made : (n words : ℕ) → numberOf a < 10 → tree ≡ compileWords 16384 book → words ≡ compileLength 16384 book → Brief (headText (getD book 0 0) words) out done n
       → HeadTold book at tree out done (record { length = n; refused = false; book = length book; tree = words; at = at; number = 0 })
   head-made n words h t w s =
       let m = made h in
@@ -86,7 +87,7 @@ module _ (book : List ℕ) (at : ℕ) (tree out done : List ℕ) (a : Answer) (e
 
 -- ---- the file
 module _ (bs book tree out done : List ℕ) where
-  pub bad-first : (line n : ℕ) (r : First) → BadFile bs line → Short (refusalBlock (answers.BadText line)) out done n → (r .length ≡ n) × (r .refused ≡ true) → FirstTold bs book tree out done r
+  pub bad-first : (line n : ℕ) (r : First) → BadFile bs line → Brief (refusalBlock (answers.BadText line)) out done n → (r .length ≡ n) × (r .refused ≡ true) → FirstTold bs book tree out done r
   bad-first line n r b s f =
       record {
         block = rw (b .0) (f .0 ∙ s .0, s .1, omega (arith, f .0, s .2));

@@ -18,12 +18,12 @@ use Rattle.steps.proofs.Laws.{RunGives, simplify-gives}
 use Rattle.text.specs.Number.{Read}
 use Rattle.text.specs.Line.{lineText}
 use Rattle.text.specs.declared.line.Line.the-variants as lines
-use Rattle.text.proofs.Laws.{line-short, Wrote, wrote-then, first-words}
+use Rattle.text.proofs.Laws.{line-short, Wrote, wrote-then, first-words, Brief}
 use Rattle.simplify.specs.declared.next.Next.{Next}
 use Rattle.simplify.specs.File.{termLine}
 use Rattle.simplify.specs.Printed.{dashLine, answerText, runWords, termBlock}
 use Rattle.simplify.specs.told.Told.{TermLineTold, BlockTold, NextTold}
-use Rattle.simplify.proofs.BlockTexts.{Short, answer-before}
+use Rattle.simplify.proofs.BlockTexts.{answer-before}
 
 -- ---- the words of a term before zeros end where their counts say
 term-ends : (ws rest : List ℕ) → IsTerm ws → partEnd (ws ++ rest) ≡ length ws
@@ -47,7 +47,7 @@ module _ (number : ℕ) (run : Run) (a : Answer) (steps : ℕ) (e : a ≡ simpli
   block-given result g h w =
       ap (λ (ws : List ℕ). answerText number a steps (lineText ws)) (result-words run result g (rw e at h) w) ∙ sym (rw (sym e, sym f, lt-leb 10 (numberOf a) h))
 
-joined : (number : ℕ) (a : Answer) (steps : ℕ) (out mid done text block : List ℕ) (start end : ℕ) → Short (answerText number a steps []) out mid start → Wrote mid start end done text
+joined : (number : ℕ) (a : Answer) (steps : ℕ) (out mid done text block : List ℕ) (start end : ℕ) → Brief (answerText number a steps []) out mid start → Wrote mid start end done text
     → length text ≤ 60000 → answerText number a steps text ≡ block → BlockTold block out done end
 joined number a steps out mid done text block start end s w l e =
     let j = wrote-then out 0 start end mid done (answerText number a steps []) text (omega (arith, s .0), s .1) w in
@@ -72,7 +72,7 @@ module _ (book tree : List ℕ) (number : ℕ) (bs : List ℕ) (at : ℕ) (befor
     there : (out done : List ℕ) (end : ℕ) → BlockTold (termBlock number the-run) out done end → NextTold book tree number bs at out done (termLine (drop at bs)) (record { length = end; at = next; number = number + 1 })
     there out done end b = rw (t .1) (rw the-words at b, refl, t .4, t .5, refl)
 
-    module _ (a : Answer) (steps : ℕ) (e : a ≡ simplifyAnswer 4096 the-run) (f : steps ≡ simplifySteps the-run) (out mid done : List ℕ) (start end : ℕ) (s : Short (answerText number a steps []) out mid start) where
+    module _ (a : Answer) (steps : ℕ) (e : a ≡ simplifyAnswer 4096 the-run) (f : steps ≡ simplifySteps the-run) (out mid done : List ℕ) (start end : ℕ) (s : Brief (answerText number a steps []) out mid start) where
       pub refused-there : 10 ≤ numberOf a → Wrote mid start end done dashLine → NextTold book tree number bs at out done (termLine (drop at bs)) (record { length = end; at = next; number = number + 1 })
       refused-there h w =
           there out done end (joined number a steps out mid done dashLine (termBlock number the-run) start end s w (omega arith) (block-refused number the-run a steps e f h))

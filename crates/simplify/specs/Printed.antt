@@ -1,12 +1,10 @@
 -- Document 01, "Text and program": what the program prints for a file, block after block.
 use Prim.Native.Nat.{ℕ, suc}
-use mathlib.Core.Bool.{Bool}
 use mathlib.Core.List.{List, [], _∷_, _++_}
-use lib.Dec.{leb}
 use lib.ListN.{length, getD}
 use Rattle.term.specs.declared.answer.Answer.{Answer}
 use Rattle.term.specs.declared.answer.Answer.the-variants.{BadText}
-use Rattle.term.specs.Answer.{numberOf, placeOf}
+use Rattle.term.specs.Answer.{numberOf}
 use Rattle.term.specs.Word.{pick}
 use Rattle.term.specs.Row.{words}
 use Rattle.tree.specs.Layout.{treeWords}
@@ -15,13 +13,11 @@ use Rattle.steps.specs.Simplify.{Run, Stopped, Ended, simplify, simplifyAnswer,
 use Rattle.text.specs.Bytes.{bytes}
 use Rattle.text.specs.Line.{lineText}
 use Rattle.text.specs.BookText.{bookLine, rulesKey, numberText}
+use Rattle.text.specs.Refusal.{answerKey, refused, refusalBlock}
 use Rattle.simplify.specs.File.{termKey, File, fileIs, badFile, fileSaid}
 
 abbrev pub treeKey : List ℕ
 treeKey = bytes "tree="
-
-abbrev pub answerKey : List ℕ
-answerKey = bytes "answer="
 
 abbrev pub stepsKey : List ℕ
 stepsKey = bytes "steps="
@@ -29,21 +25,10 @@ stepsKey = bytes "steps="
 abbrev pub resultKey : List ℕ
 resultKey = bytes "result="
 
-abbrev pub atKey : List ℕ
-atKey = bytes "at="
-
 abbrev pub dashLine : List ℕ
 dashLine = bytes "-\n"
 
--- "Refusals are 10 and up"
-abbrev pub refused : Answer → Bool
-refused a = leb 10 (numberOf a)
-
 -- ---- the blocks
--- a file that is refused: `answer=`, `at=`
-unfoldable pub refusalBlock : Answer → List ℕ
-refusalBlock a = numberText answerKey (numberOf a) (numberText atKey (placeOf a) [])
-
 -- the head: `book=1`, `rules=`, `tree=`
 unfoldable pub headText : ℕ → ℕ → List ℕ
 headText rules tree = bookLine ++ numberText rulesKey rules (numberText treeKey tree [])

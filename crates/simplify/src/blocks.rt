@@ -1,32 +1,18 @@
-// The text of the blocks that are printed.
+// The text of the blocks that are printed for a file that is not refused.
 ghost use mathlib.Core.Path.{_≡_};
 ghost use mathlib.Core.List.{[]};
 ghost use Prim.Native.Nat.{_+_, _≤_};
 ghost use lib.ListN.{length, take};
 ghost use lib.Seq.{sets};
-ghost use Rattle.term.specs.Answer.{placeOf};
 ghost use Rattle.term.specs.Part.{partEnd};
 ghost use Rattle.text.specs.Line.{lineText};
-ghost use Rattle.simplify.specs.Printed.{refusalBlock, headText, answerText};
+ghost use Rattle.simplify.specs.Printed.{headText, answerText};
 use term::answer::Answer;
 use term::answer::number;
-use term::answer::place;
 use term::part::part_end;
 use text::line::write_line;
 use text::write_book::put_key;
 use text::write_book::write_number_line;
-
-// Refusals are from this number up.
-pub const FIRST_REFUSAL: u32 = 10;
-
-// Writes the two lines of a file that is refused; the offset after them.
-pub fn write_refusal(answer: Answer, out: &mut [u8]) -> usize
-    requires { ⌜ placeOf answer ≤ 70000 ⌝ }
-    ensures { λ r. ⌜ (r ≡ length (refusalBlock answer)) × (now (out .exit) ≡ sets (now (out .entry)) 0 (refusalBlock answer)) × (r ≤ 100) ⌝ }
-{
-    let at = write_number_line(out, 0, b"answer=", number(answer));
-    write_number_line(out, at, b"at=", place(answer) as u32)
-}
 
 // Writes the three lines of the head; the offset after them.
 pub fn write_head(rules: u32, tree: u32, out: &mut [u8]) -> usize

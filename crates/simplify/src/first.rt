@@ -4,15 +4,15 @@ ghost use mathlib.Core.Bool.{true};
 ghost use Prim.Native.Nat.{_≤_};
 ghost use lib.ListN.{length, getD};
 ghost use Rattle.simplify.specs.told.Told.{HeadTold, FirstTold};
-use crate::blocks::FIRST_REFUSAL;
 use crate::blocks::write_head;
-use crate::blocks::write_refusal;
 use crate::input::Input;
 use crate::input::read_input;
 use compiler::compile::compile;
 use term::answer::Answer;
 use term::answer::number;
 use term::check::MOST_WORDS;
+use text::refusal::FIRST_REFUSAL;
+use text::refusal::write_refusal;
 
 // So many bytes of the block and whether the file is refused; so many words of the book and of its tree, and the offset and the number of the
 // first term.

@@ -4,18 +4,17 @@ mod blocks;
 mod first;
 mod input;
 mod next;
-mod streams;
 
 ghost use mathlib.Core.Path.{_≡_};
 ghost use Prim.Native.Nat.{_≤_};
 ghost use lib.ListN.{length};
 use first::first_block;
 use next::next_block;
-use streams::Came;
-use streams::has_arguments;
-use streams::print;
-use streams::read_all;
-use streams::read_failed;
+use streams::standard::Came;
+use streams::standard::has_arguments;
+use streams::standard::print;
+use streams::standard::read_all;
+use streams::standard::read_failed;
 use text::book_text::BOOK;
 use tree::node::MOST_TREE;
 
@@ -24,6 +23,11 @@ const ROOM: usize = 65537;
 
 // The longest block is 4,096 tokens and a few short lines.
 const BLOCK: usize = 65536;
+
+// Prints a block, or says why it cannot.
+fn print_block(block: &[u8]) -> bool {
+    print(block, b"simplify: standard output")
+}
 
 // Prints the block of each term, until the text or the output ends.
 fn print_terms(text: &[u8], from: usize, first: u32, book: &[u32], tree: &[u32], out: &mut [u8])
@@ -34,7 +38,7 @@ fn print_terms(text: &[u8], from: usize, first: u32, book: &[u32], tree: &[u32],
     while at < text.len() {
         let next = next_block(text, at, term, book, tree, out);
         let length = next.length;
-        if !print(&out[..length]) {
+        if !print_block(&out[..length]) {
             return;
         }
         at = next.at;
@@ -48,7 +52,7 @@ fn print_file(text: &[u8], book: &mut [u32], tree: &mut [u32], out: &mut [u8])
 {
     let first = first_block(text, book, tree, out);
     let length = first.length;
-    if !print(&out[..length]) {
+    if !print_block(&out[..length]) {
         return;
     }
     if first.refused {
@@ -75,13 +79,13 @@ fn print_input(text: &mut [u8], book: &mut [u32], tree: &mut [u32], out: &mut [u
             print_file(&text[..n], book, tree, out);
         }
         Came::Failed => {
-            read_failed();
+            read_failed(b"simplify: standard input");
         }
     }
 }
 
 fn main() {
-    if has_arguments() {
+    if has_arguments(b"usage: simplify < FILE\n") {
         return;
     }
     let mut text = [0u8; ROOM];

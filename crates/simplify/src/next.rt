@@ -4,7 +4,6 @@ ghost use Prim.Native.Nat.{_≤_};
 ghost use lib.ListN.{length, drop};
 ghost use Rattle.simplify.specs.File.{termLine};
 ghost use Rattle.simplify.specs.told.Told.{NextTold};
-use crate::blocks::FIRST_REFUSAL;
 use crate::blocks::write_answer;
 use crate::blocks::write_result;
 use crate::input::read_term_line;
@@ -12,6 +11,7 @@ use steps::simplify::simplify;
 use term::answer::number;
 use term::check::MOST_WORDS;
 use text::line::Line;
+use text::refusal::FIRST_REFUSAL;
 use text::write_book::put_key;
 
 // So many bytes of the block, and the offset and the number of the next term.

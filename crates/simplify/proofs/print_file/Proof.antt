@@ -7,8 +7,8 @@ use lib.Seq.{length-take-le}
 use Rattle.simplify.proofs.print_file.Statement.{statement}
 use Rattle.simplify.proofs.print_file.Tie as tie
 
-slice-aggregate-print : tie.Need-slice-aggregate-print
-slice-aggregate-print c =
+slice-aggregate-print-block : tie.Need-slice-aggregate-print-block
+slice-aggregate-print-block c =
     let far = c .before .before .before .before .before .before .before in
     sym (length-take-le (far .first-block .result .length) (far .first-block .last .1 .1 .1 .0) (omega (arith, far .first-block .ensures .block .2, far .first-block .kept .1 .1 .1 .0, c .before .before .before .before .before .before .before .before .before .before .before .before .before .before .before .pre .2)))
 
@@ -34,7 +34,7 @@ print-file-spec =
     (tie.spec
     (λ c κs. search needs)
     (λ c. search needs)
-    slice-aggregate-print
+    slice-aggregate-print-block
     (λ c κs. search needs)
     (λ c. search needs)
     (λ c. search needs)

@@ -5,8 +5,8 @@ use mathlib.Core.Path.{_≡_, sym}
 use Prim.Native.Nat.{_≤_}
 use lib.ListN.{length}
 use lib.Seq.{length-take-le}
-use Rattle.simplify.specs.declared.streams.Came.the-variants as came
-use Rattle.simplify.specs.told.Told.{Within}
+use Rattle.streams.specs.declared.standard.Came.the-variants as came
+use Rattle.streams.specs.told.Told.{Within}
 use Rattle.simplify.proofs.print_input.Statement.{statement}
 use Rattle.simplify.proofs.print_input.Tie as tie
 
@@ -28,6 +28,7 @@ print-input-spec =
     (λ c. stand c)
     slice-aggregate-print-file
     (λ c κs. search needs)
+    (λ c. search needs)
     (λ c. search needs)
     (λ c κs. search needs)
     (λ c. search needs)

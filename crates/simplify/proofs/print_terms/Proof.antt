@@ -21,8 +21,8 @@ next-block-requires c κs =
     let turn = c .before .before in
     (turn .loop .inv .1, omega (arith, turn .loop .inv .1, turn .loop .inv .2, c .before .before .before .before .before .before .before .pre .1))
 
-slice-reshare-prefix-print : tie.Need-slice-reshare-prefix-print Inv-loop μ-loop
-slice-reshare-prefix-print c =
+slice-reshare-prefix-print-block : tie.Need-slice-reshare-prefix-print-block Inv-loop μ-loop
+slice-reshare-prefix-print-block c =
     let start = c .before .before .before .before .before .before .before .before .before .before in
     let far = c .before .before in
     let s = start .args in
@@ -30,8 +30,8 @@ slice-reshare-prefix-print c =
     let w = next-within (s .book .now) (s .tree .now) (q .term) (s .text .now) (q .at) (q .out) (far .next-block .last .1 .1 .1 .1 .1 .0) (termLine (drop (q .at) (s .text .now))) (far .next-block .result) (c .before .before .before .before .loop-test .taken) (q .inv .2) (far .next-block .ensures) in
     omega (arith, w .3, far .next-block .kept .1 .1 .1 .1 .1 .0, q .inv .0, start .pre .3)
 
-slice-aggregate-print : tie.Need-slice-aggregate-print Inv-loop μ-loop
-slice-aggregate-print c =
+slice-aggregate-print-block : tie.Need-slice-aggregate-print-block Inv-loop μ-loop
+slice-aggregate-print-block c =
     let start = c .before .before .before .before .before .before .before .before .before .before .before in
     let far = c .before .before .before in
     let s = start .args in
@@ -61,8 +61,8 @@ print-terms-spec =
     (tie.spec Inv-loop μ-loop
     (λ c. (refl, c .before .before .before .before .pre .0, c .before .before .before .before .pre .2))
     next-block-requires
-    slice-reshare-prefix-print
-    slice-aggregate-print
+    slice-reshare-prefix-print-block
+    slice-aggregate-print-block
     (λ c κs. search needs)
     (λ c. c .before .before .before .before .before .next-block .kept .1 .1 .1 .1 .1 .0 ∙ c .before .before .before .before .before .before .before .before .loop .inv .0)
     (λ c. search needs)

@@ -8,6 +8,7 @@ use lib.ListN.{length, getD, take, drop}
 use lib.Seq.{sets}
 use Rattle.text.specs.Number.{Read}
 use Rattle.text.specs.BookText.{dueAfter}
+use Rattle.text.specs.Refusal.{refused}
 use Rattle.text.specs.declared.line.Line.{Line}
 use Rattle.text.specs.declared.line.Line.the-variants as lines
 use Rattle.tree.specs.Layout.{treeWords}
@@ -18,16 +19,9 @@ use Rattle.simplify.specs.declared.input.Judged.the-variants as judged
 use Rattle.simplify.specs.declared.input.Input.{Input}
 use Rattle.simplify.specs.declared.input.Input.the-variants as input
 use Rattle.simplify.specs.declared.first.First.{First}
-use Rattle.simplify.specs.declared.streams.Came.{Came}
-use Rattle.simplify.specs.declared.streams.Came.the-variants as came
 use Rattle.simplify.specs.declared.next.Next.{Next}
 use Rattle.simplify.specs.File.{termLine, Terms, termsAre, badTerm, termsRead, fileIs, badFile, fileSaid}
-use Rattle.simplify.specs.Printed.{refused, termBlock, fileAnswer, fileBook, fileTerms, bookBlock, firstBlock}
-
--- at most so many bytes came in
-abbrev pub Within : ℕ → Came → Type 0
-Within most (came.Bytes n) = n ≤ most
-Within most came.Failed = Unit {0}
+use Rattle.simplify.specs.Printed.{termBlock, fileAnswer, fileBook, fileTerms, bookBlock, firstBlock}
 
 -- a `term=` line at the offset `at` of a text, whose words went into a slice
 abbrev pub TermLineTold : List ℕ → ℕ → List ℕ → List ℕ → Line → Type 0

@@ -1,10 +1,11 @@
 -- `blocks::write_answer` meets its contract: its lines are written one after the other.
 use borrow.Author.Needs.{needs}
 use native.Mathlib.Omega.{arith}
-use Rattle.text.proofs.Laws.{number-text-short}
+use Rattle.text.specs.Refusal.{answerKey}
+use Rattle.text.proofs.Laws.{number-text-short, number-small}
 use Rattle.simplify.specs.File.{termKey}
-use Rattle.simplify.specs.Printed.{answerKey, stepsKey}
-use Rattle.simplify.proofs.BlockTexts.{number-small, answer-wrote}
+use Rattle.simplify.specs.Printed.{stepsKey}
+use Rattle.simplify.proofs.BlockTexts.{answer-wrote}
 use Rattle.simplify.proofs.blocks.write_answer.Statement.{statement}
 use Rattle.simplify.proofs.blocks.write_answer.Tie as tie
 

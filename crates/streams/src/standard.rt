@@ -1,6 +1,6 @@
-// Standard input and output, and what is said on standard error where they fail.
+// Standard input and output, and what is said on standard error where they fail: in the words that a program lends, since they name it.
 ghost use lib.ListN.{length};
-ghost use Rattle.simplify.specs.told.Told.{Within};
+ghost use Rattle.streams.specs.told.Told.{Within};
 use libc::STDERR_FILENO;
 use libc::STDIN_FILENO;
 use libc::STDOUT_FILENO;
@@ -43,25 +43,25 @@ pub fn read_all(text: &mut [u8]) -> Came
     Came::Bytes(n)
 }
 
-// Says why the read failed.
-pub fn read_failed() {
-    os::fail(b"simplify: standard input");
+// Says of the input with this name why a read failed.
+pub fn read_failed(input: &[u8]) {
+    os::fail(input);
 }
 
-// Prints a block, or says why it cannot.
-pub fn print(block: &[u8]) -> bool {
+// Prints a block, or says of the output with this name why it cannot.
+pub fn print(block: &[u8], output: &[u8]) -> bool {
     if io::write_all(STDOUT_FILENO, block) {
         return true;
     }
-    os::fail(b"simplify: standard output");
+    os::fail(output);
     false
 }
 
-// Whether there were arguments, which the program does not take: it says how it is used.
-pub fn has_arguments() -> bool {
+// Whether there were arguments, which no program takes: the line of its usage is then said.
+pub fn has_arguments(usage: &[u8]) -> bool {
     if os::arg_count() <= 1 {
         return false;
     }
-    io::write_all(STDERR_FILENO, b"usage: simplify < FILE\n");
+    io::write_all(STDERR_FILENO, usage);
     true
 }

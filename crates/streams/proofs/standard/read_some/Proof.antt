@@ -1,8 +1,8 @@
--- `streams::read_some` meets its contract: what came in is counted within the lent bytes.
+-- `standard::read_some` meets its contract: what came in is counted within the lent bytes.
 use borrow.Author.Needs.{needs}
 use native.Mathlib.Omega.{arith}
-use Rattle.simplify.proofs.streams.read_some.Statement.{statement}
-use Rattle.simplify.proofs.streams.read_some.Tie as tie
+use Rattle.streams.proofs.standard.read_some.Statement.{statement}
+use Rattle.streams.proofs.standard.read_some.Tie as tie
 
 returns-2 : tie.Need-returns-2
 returns-2 c = omega (arith, c .count .ensures .0 .0, c .before .before .before .before .before .read .kept .1 .0)

@@ -1,4 +1,4 @@
--- `streams::read_all` meets its contract: each read that is not the last brings at least a byte, and no more than there is room for.
+-- `standard::read_all` meets its contract: each read that is not the last brings at least a byte, and no more than there is room for.
 use borrow.Author.Needs.{needs}
 use native.Mathlib.Omega.{arith}
 use mathlib.Core.Path.{_≡_, refl, _∙_}
@@ -6,10 +6,10 @@ use mathlib.Core.List.{List}
 use Prim.Native.Nat.{ℕ, _+_, _-_, _≤_, _<_}
 use lib.ListN.{length, take, drop, length-drop}
 use lib.Seq.{length-take-le}
-use Rattle.simplify.specs.declared.streams.Came.the-variants as came
-use Rattle.simplify.specs.told.Told.{Within}
-use Rattle.simplify.proofs.streams.read_all.Statement.{statement}
-use Rattle.simplify.proofs.streams.read_all.Tie as tie
+use Rattle.streams.specs.declared.standard.Came.the-variants as came
+use Rattle.streams.specs.told.Told.{Within}
+use Rattle.streams.proofs.standard.read_all.Statement.{statement}
+use Rattle.streams.proofs.standard.read_all.Tie as tie
 
 abbrev Inv-loop : tie.InvT-loop
 Inv-loop text₀ n₀ text n = (n ≤ length text) × (length text ≡ length text₀)
