@@ -9,6 +9,7 @@ use Rattle.compiler.specs.Compiled.{CompileOutcome, compileCame}
 use Rattle.walk.specs.ByTree.{MatchTreeOutcome, matchTreeCame}
 use Rattle.steps.specs.Rewrite.{RewriteRootOutcome, rewriteRootCame}
 use Rattle.steps.specs.Simplify.{SimplifyOutcome, simplifyCame}
+use Rattle.mend.specs.Repair.{RepairBookOutcome, repairBookCame}
 use Rattle.text.specs.BookText.{ReadBookOutcome, readBookCame, WriteBookOutcome, writeBookCame}
 use Rattle.text.specs.TermText.{ReadTermOutcome, readTermCame, WriteTermOutcome, writeTermCame}
 
@@ -36,6 +37,9 @@ module _ (said told : Answered) (e : said ≡ told) where
 
   pub write-book-told : (out : List ℕ) (o : WriteBookOutcome) → writeBookCame told out ≡ o → writeBookCame said out ≡ o
   write-book-told out o p = ap (λ (a : Answered). writeBookCame a out) e ∙ p
+
+  pub repair-book-told : (out : List ℕ) (o : RepairBookOutcome) → repairBookCame told out ≡ o → repairBookCame said out ≡ o
+  repair-book-told out o p = ap (λ (a : Answered). repairBookCame a out) e ∙ p
 
   pub read-term-told : (out : List ℕ) (o : ReadTermOutcome) → readTermCame told out ≡ o → readTermCame said out ≡ o
   read-term-told out o p = ap (λ (a : Answered). readTermCame a out) e ∙ p

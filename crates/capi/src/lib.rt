@@ -1,4 +1,4 @@
-// The twelve public operations for C and Rust, on numbers and slices. A slice is passed as a pointer and a length, an array and a single number as a
+// The thirteen public operations for C and Rust, on numbers and slices. A slice is passed as a pointer and a length, an array and a single number as a
 // pointer. Inputs come first, then lent outputs, then further results, and the place last; what comes back is document 01's number. Each
 // promises what the operation of `rosenduch` promises, where what is said is that number and that place.
 ghost use mathlib.Core.Path.{_≡_};
@@ -13,6 +13,7 @@ ghost use Rattle.walk.specs.ByTree.{matchTreeCame, matchTreeGives};
 ghost use Rattle.steps.specs.Rewrite.{rewriteRootCame, rewriteRootGives};
 ghost use Rattle.steps.specs.Simplify.{simplifyCame, simplifyGives};
 ghost use Rattle.text.specs.TermText.{readTermCame, readTermGives, writeTermCame, writeTermGives};
+ghost use Rattle.mend.specs.Repair.{repairBookCame, repairBookGives};
 ghost use Rattle.text.specs.BookText.{readBookCame, readBookGives, writeBookCame, writeBookGives};
 use rosenduch::operations;
 use term::answer::Answer;
@@ -162,6 +163,14 @@ pub extern "C" fn rosenduch_write_book(book: &[u32], out: &mut [u8], at: &mut us
     ensures { λ r. ⌜ writeBookCame (saying r (now (at .exit))) (now (out .exit)) ≡ writeBookGives (now (book .entry)) (length (now (out .entry))) ⌝ }
 {
     say(operations::write_book(book, out), at)
+}
+
+// Repairs the text of a book that came by mail.
+#[no_mangle]
+pub extern "C" fn rosenduch_repair_book(text: &[u8], out: &mut [u8], at: &mut usize) -> u32
+    ensures { λ r. ⌜ repairBookCame (saying r (now (at .exit))) (now (out .exit)) ≡ repairBookGives (now (text .entry)) (length (now (out .entry))) ⌝ }
+{
+    say(operations::repair_book(text, out), at)
 }
 
 // Reads the text of a term.

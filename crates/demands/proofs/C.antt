@@ -1,4 +1,4 @@
--- The twelve functions for C: what is asked computes to nothing, what is ensured to the promise, and the code meets both.
+-- The thirteen functions for C: what is asked computes to nothing, what is ensured to the promise, and the code meets both.
 use Rattle.capi.proofs.rosenduch_check_term.Met as check-term-met
 use Rattle.capi.proofs.rosenduch_check_book.Met as check-book-met
 use Rattle.capi.proofs.rosenduch_match_rule.Met as match-rule-met
@@ -9,6 +9,7 @@ use Rattle.capi.proofs.rosenduch_rewrite_root.Met as rewrite-root-met
 use Rattle.capi.proofs.rosenduch_simplify.Met as simplify-met
 use Rattle.capi.proofs.rosenduch_read_book.Met as read-book-met
 use Rattle.capi.proofs.rosenduch_write_book.Met as write-book-met
+use Rattle.capi.proofs.rosenduch_repair_book.Met as repair-book-met
 use Rattle.capi.proofs.rosenduch_read_term.Met as read-term-met
 use Rattle.capi.proofs.rosenduch_write_term.Met as write-term-met
 use Rattle.rosenduch.specs.Operations.{Promised}
@@ -27,6 +28,7 @@ c-asks-nothing =
       simplify = λ lifetimes given. tt;
       read-book = λ lifetimes given. tt;
       write-book = λ lifetimes given. tt;
+      repair-book = λ lifetimes given. tt;
       read-term = λ lifetimes given. tt;
       write-term = λ lifetimes given. tt;
     }
@@ -44,6 +46,7 @@ c-meets =
       simplify = simplify-met.met;
       read-book = read-book-met.met;
       write-book = write-book-met.met;
+      repair-book = repair-book-met.met;
       read-term = read-term-met.met;
       write-term = write-term-met.met;
     }
@@ -61,6 +64,7 @@ c-promised =
       simplify = λ book tree term budget room o p. rw (p .1, p .2, p .3, p .4, p .5, p .6) (p .0 .ensured);
       read-book = λ text room o p. rw (p .1, p .2, p .3) (p .0 .ensured);
       write-book = λ book room o p. rw (p .1, p .2, p .3) (p .0 .ensured);
+      repair-book = λ text room o p. rw (p .1, p .2, p .3) (p .0 .ensured);
       read-term = λ text room o p. rw (p .1, p .2, p .3) (p .0 .ensured);
       write-term = λ term room o p. rw (p .1, p .2, p .3) (p .0 .ensured);
     }

@@ -2,7 +2,7 @@
 use Rattle.rosenduch.proofs.Laws as laws
 use Rattle.demands.specs.Rust.{rust}
 use Rattle.demands.specs.C.{forC}
-use Rattle.demands.specs.Demands.{Demand1, Demand2, Demand3, Settled}
+use Rattle.demands.specs.Demands.{Demand1, Demand2, Demand3, Settled, Repaired}
 use Rattle.demands.proofs.Rust.{rust-asks-nothing, rust-meets, rust-promised}
 use Rattle.demands.proofs.C.{c-asks-nothing, c-meets, c-promised}
 
@@ -25,3 +25,6 @@ demand-3 = record { of-rust = laws.demand-3 rust rust-promised; of-c = laws.dema
 
 pub all-settled : Settled
 all-settled = record { of-rust = laws.settles rust rust-promised; of-c = laws.settles forC c-promised }
+
+pub all-repaired : Repaired
+all-repaired = record { of-rust = laws.repairs rust rust-promised; of-c = laws.repairs forC c-promised }

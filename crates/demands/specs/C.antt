@@ -1,4 +1,4 @@
--- The twelve functions for C: what each asks, that its code meets its contract, and what it may hand back. What is said is the number handed back and
+-- The thirteen functions for C: what each asks, that its code meets its contract, and what it may hand back. What is said is the number handed back and
 -- the place written through the last pointer.
 use mathlib.Core.Path.{_≡_}
 use lib.ListN.{length}
@@ -11,6 +11,7 @@ use Rattle.walk.specs.ByTree.{matchTreeCame}
 use Rattle.steps.specs.Rewrite.{rewriteRootCame}
 use Rattle.steps.specs.Simplify.{simplifyCame}
 use Rattle.text.specs.TermText.{readTermCame, writeTermCame}
+use Rattle.mend.specs.Repair.{repairBookCame}
 use Rattle.text.specs.BookText.{readBookCame, writeBookCame}
 use Rattle.rosenduch.specs.Operations.{Operations}
 use Rattle.capi.proofs.rosenduch_check_term.Kinds as check-term-kinds
@@ -23,6 +24,7 @@ use Rattle.capi.proofs.rosenduch_rewrite_root.Kinds as rewrite-root-kinds
 use Rattle.capi.proofs.rosenduch_simplify.Kinds as simplify-kinds
 use Rattle.capi.proofs.rosenduch_read_book.Kinds as read-book-kinds
 use Rattle.capi.proofs.rosenduch_write_book.Kinds as write-book-kinds
+use Rattle.capi.proofs.rosenduch_repair_book.Kinds as repair-book-kinds
 use Rattle.capi.proofs.rosenduch_read_term.Kinds as read-term-kinds
 use Rattle.capi.proofs.rosenduch_write_term.Kinds as write-term-kinds
 use Rattle.capi.proofs.rosenduch_check_term.Reads as check-term-reads
@@ -35,6 +37,7 @@ use Rattle.capi.proofs.rosenduch_rewrite_root.Reads as rewrite-root-reads
 use Rattle.capi.proofs.rosenduch_simplify.Reads as simplify-reads
 use Rattle.capi.proofs.rosenduch_read_book.Reads as read-book-reads
 use Rattle.capi.proofs.rosenduch_write_book.Reads as write-book-reads
+use Rattle.capi.proofs.rosenduch_repair_book.Reads as repair-book-reads
 use Rattle.capi.proofs.rosenduch_read_term.Reads as read-term-reads
 use Rattle.capi.proofs.rosenduch_write_term.Reads as write-term-reads
 use Rattle.capi.proofs.rosenduch_check_term.Statement as check-term-statement
@@ -47,6 +50,7 @@ use Rattle.capi.proofs.rosenduch_rewrite_root.Statement as rewrite-root-stateme
 use Rattle.capi.proofs.rosenduch_simplify.Statement as simplify-statement
 use Rattle.capi.proofs.rosenduch_read_book.Statement as read-book-statement
 use Rattle.capi.proofs.rosenduch_write_book.Statement as write-book-statement
+use Rattle.capi.proofs.rosenduch_repair_book.Statement as repair-book-statement
 use Rattle.capi.proofs.rosenduch_read_term.Statement as read-term-statement
 use Rattle.capi.proofs.rosenduch_write_term.Statement as write-term-statement
 use Rattle.demands.specs.Calls.{AsksNothing, Call}
@@ -63,6 +67,7 @@ pub record CAsksNothing : Type 0 where
   pub simplify : AsksNothing 6 simplify-kinds.ps simplify-reads.Pre
   pub read-book : AsksNothing 3 read-book-kinds.ps read-book-reads.Pre
   pub write-book : AsksNothing 3 write-book-kinds.ps write-book-reads.Pre
+  pub repair-book : AsksNothing 3 repair-book-kinds.ps repair-book-reads.Pre
   pub read-term : AsksNothing 3 read-term-kinds.ps read-term-reads.Pre
   pub write-term : AsksNothing 3 write-term-kinds.ps write-term-reads.Pre
 
@@ -78,6 +83,7 @@ pub record CMeets : Type 2 where
   pub simplify : {M : Type 1} → simplify-statement.statement M
   pub read-book : {M : Type 1} → read-book-statement.statement M
   pub write-book : {M : Type 1} → write-book-statement.statement M
+  pub repair-book : {M : Type 1} → repair-book-statement.statement M
   pub read-term : {M : Type 1} → read-term-statement.statement M
   pub write-term : {M : Type 1} → write-term-statement.statement M
 
@@ -153,6 +159,12 @@ forC =
           × (book ≡ now (c .given .0))
           × (room ≡ length (now (c .given .1 .0)))
           × (o ≡ writeBookCame (saying (c .result) (now (c .after .1 .1 .0))) (now (c .after .1 .0)))
+          );
+      repair-book = λ text room o. (
+          (c : Call 3 repair-book-kinds.ps repair-book-kinds.r repair-book-reads.Post)
+          × (text ≡ now (c .given .0))
+          × (room ≡ length (now (c .given .1 .0)))
+          × (o ≡ repairBookCame (saying (c .result) (now (c .after .1 .1 .0))) (now (c .after .1 .0)))
           );
       read-term = λ text room o. (
           (c : Call 3 read-term-kinds.ps read-term-kinds.r read-term-reads.Post)

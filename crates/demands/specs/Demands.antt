@@ -1,6 +1,7 @@
--- The three demands, of the code: of the twelve functions for Rust and of the twelve for C. The words are in crate `rosenduch`, specs/Demands.antt.
+-- The three demands, of the code: of the thirteen functions for Rust and of the thirteen for C. The words are in crate `rosenduch`, specs/Demands.antt.
 use Rattle.rosenduch.specs.Operations.{Settles}
 use Rattle.rosenduch.specs.Demands as words
+use Rattle.rosenduch.specs.Repairs.{Repairs}
 use Rattle.demands.specs.Rust.{RustAsksNothing, RustMeets, rust}
 use Rattle.demands.specs.C.{CAsksNothing, CMeets, forC}
 
@@ -27,3 +28,8 @@ pub record Demand3 : Type 0 where
 pub record Settled : Type 0 where
   pub of-rust : Settles rust
   pub of-c : Settles forC
+
+-- document 02's E1, of the code
+pub record Repaired : Type 0 where
+  pub of-rust : Repairs rust
+  pub of-c : Repairs forC

@@ -1,4 +1,4 @@
--- The twelve functions of `rosenduch::operations`: what each asks, that its code meets its contract, and what it may hand back.
+-- The thirteen functions of `rosenduch::operations`: what each asks, that its code meets its contract, and what it may hand back.
 use mathlib.Core.Path.{_≡_}
 use lib.ListN.{length}
 use denote.Ref.{now}
@@ -10,6 +10,7 @@ use Rattle.walk.specs.ByTree.{matchTreeCame}
 use Rattle.steps.specs.Rewrite.{rewriteRootCame}
 use Rattle.steps.specs.Simplify.{simplifyCame}
 use Rattle.text.specs.TermText.{readTermCame, writeTermCame}
+use Rattle.mend.specs.Repair.{repairBookCame}
 use Rattle.text.specs.BookText.{readBookCame, writeBookCame}
 use Rattle.rosenduch.specs.Operations.{Operations}
 use Rattle.rosenduch.proofs.operations.check_term.Kinds as check-term-kinds
@@ -22,6 +23,7 @@ use Rattle.rosenduch.proofs.operations.rewrite_root.Kinds as rewrite-root-kinds
 use Rattle.rosenduch.proofs.operations.simplify.Kinds as simplify-kinds
 use Rattle.rosenduch.proofs.operations.read_book.Kinds as read-book-kinds
 use Rattle.rosenduch.proofs.operations.write_book.Kinds as write-book-kinds
+use Rattle.rosenduch.proofs.operations.repair_book.Kinds as repair-book-kinds
 use Rattle.rosenduch.proofs.operations.read_term.Kinds as read-term-kinds
 use Rattle.rosenduch.proofs.operations.write_term.Kinds as write-term-kinds
 use Rattle.rosenduch.proofs.operations.check_term.Reads as check-term-reads
@@ -34,6 +36,7 @@ use Rattle.rosenduch.proofs.operations.rewrite_root.Reads as rewrite-root-reads
 use Rattle.rosenduch.proofs.operations.simplify.Reads as simplify-reads
 use Rattle.rosenduch.proofs.operations.read_book.Reads as read-book-reads
 use Rattle.rosenduch.proofs.operations.write_book.Reads as write-book-reads
+use Rattle.rosenduch.proofs.operations.repair_book.Reads as repair-book-reads
 use Rattle.rosenduch.proofs.operations.read_term.Reads as read-term-reads
 use Rattle.rosenduch.proofs.operations.write_term.Reads as write-term-reads
 use Rattle.rosenduch.proofs.operations.check_term.Statement as check-term-statement
@@ -46,6 +49,7 @@ use Rattle.rosenduch.proofs.operations.rewrite_root.Statement as rewrite-root-s
 use Rattle.rosenduch.proofs.operations.simplify.Statement as simplify-statement
 use Rattle.rosenduch.proofs.operations.read_book.Statement as read-book-statement
 use Rattle.rosenduch.proofs.operations.write_book.Statement as write-book-statement
+use Rattle.rosenduch.proofs.operations.repair_book.Statement as repair-book-statement
 use Rattle.rosenduch.proofs.operations.read_term.Statement as read-term-statement
 use Rattle.rosenduch.proofs.operations.write_term.Statement as write-term-statement
 use Rattle.demands.specs.Calls.{AsksNothing, Call}
@@ -62,6 +66,7 @@ pub record RustAsksNothing : Type 0 where
   pub simplify : AsksNothing 4 simplify-kinds.ps simplify-reads.Pre
   pub read-book : AsksNothing 2 read-book-kinds.ps read-book-reads.Pre
   pub write-book : AsksNothing 2 write-book-kinds.ps write-book-reads.Pre
+  pub repair-book : AsksNothing 2 repair-book-kinds.ps repair-book-reads.Pre
   pub read-term : AsksNothing 2 read-term-kinds.ps read-term-reads.Pre
   pub write-term : AsksNothing 2 write-term-kinds.ps write-term-reads.Pre
 
@@ -77,6 +82,7 @@ pub record RustMeets : Type 2 where
   pub simplify : {M : Type 1} → simplify-statement.statement M
   pub read-book : {M : Type 1} → read-book-statement.statement M
   pub write-book : {M : Type 1} → write-book-statement.statement M
+  pub repair-book : {M : Type 1} → repair-book-statement.statement M
   pub read-term : {M : Type 1} → read-term-statement.statement M
   pub write-term : {M : Type 1} → write-term-statement.statement M
 
@@ -152,6 +158,12 @@ rust =
           × (book ≡ now (c .given .0))
           × (room ≡ length (now (c .given .1 .0)))
           × (o ≡ writeBookCame (answered (c .result)) (now (c .after .1 .0)))
+          );
+      repair-book = λ text room o. (
+          (c : Call 2 repair-book-kinds.ps repair-book-kinds.r repair-book-reads.Post)
+          × (text ≡ now (c .given .0))
+          × (room ≡ length (now (c .given .1 .0)))
+          × (o ≡ repairBookCame (answered (c .result)) (now (c .after .1 .0)))
           );
       read-term = λ text room o. (
           (c : Call 2 read-term-kinds.ps read-term-kinds.r read-term-reads.Post)

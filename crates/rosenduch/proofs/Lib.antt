@@ -9,6 +9,7 @@ mod Fitted
 mod Roots
 mod Runs
 mod Demands
+mod Repairs
 mod Computed
 mod WrongPrograms
 pub mod Laws

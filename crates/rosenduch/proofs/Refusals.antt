@@ -33,6 +33,9 @@ use Rattle.steps.specs.Step.{Becomes}
 use Rattle.steps.specs.Simplify.{Run, Stopped, simplify, simplifyAnswer, simplifySteps, SimplifyOutcome}
 use Rattle.steps.proofs.Laws.{StepsTo, rewrite-bad-book, rewrite-bad-term, rewrite-walked, simplify-bad-book, simplify-bad-term, simplify-runs, stopped-run, none-steps, more-steps, makes-step, damage-stops}
 use Rattle.text.specs.TermText.{Said, says, badLine, termSaid, readAnswer, writeAnswer, ReadTermOutcome, WriteTermOutcome}
+use Rattle.text.specs.Mail.{Mail, mailIs, badMail, mailSaid}
+use Rattle.mend.specs.Repair.{repairAnswer, RepairBookOutcome}
+use Rattle.mend.proofs.Laws.{repair-gives, repair-bad-line}
 use Rattle.text.specs.BookText.{bookSaid, readBookAnswer, writeBookAnswer, ReadBookOutcome, WriteBookOutcome}
 use Rattle.text.proofs.Laws.{read-term-gives, write-term-gives, read-book-gives, write-book-gives, read-bad-line, read-bad-term, write-bad-term, read-bad-book-line, read-bad-book, write-bad-book}
 use Rattle.rosenduch.specs.Operations.{Operations, Promised}
@@ -222,6 +225,17 @@ module _ (text : List ℕ) (room : ℕ) (said : Answered) where
         go (says term) e = (term, e, term-is said low term (term-said term e))
         go (badLine at) e = absurd (not-refused said low 10 at (omega arith) (term-line at e))
 
+module _ (text : List ℕ) (room : ℕ) (said : Answered) (p : said ≡ answered (repairAnswer room (mailSaid text))) where
+  mail-line : (at : ℕ) → mailSaid text ≡ badMail at → said ≡ saying 10 at
+  mail-line at e = p ∙ ap answered (ap (repairAnswer room) e ∙ repair-bad-line room at .0)
+
+  mail-passes : said .number < 10 → (stated : ℕ) × (rules : List (List ℕ)) × (mailSaid text ≡ mailIs stated rules)
+  mail-passes low = go (mailSaid text) refl
+    where
+      go : (m : Mail) → mailSaid text ≡ m → (stated : ℕ) × (rules : List (List ℕ)) × (mailSaid text ≡ mailIs stated rules)
+      go (mailIs stated rules) e = (stated, rules, e)
+      go (badMail at) e = absurd (not-refused said low 10 at (omega arith) (mail-line at e))
+
 write-book : (book : List ℕ) (room : ℕ) (said : Answered) → said ≡ answered (writeBookAnswer room book) → BookJudged book said
 write-book book room said p at e = p ∙ ap answered (write-bad-book room book at e .0)
 
@@ -284,6 +298,10 @@ refuses-bad ops kept =
       write-book = λ book room o p. (
           let judged = write-book book room (o .said) (ap (λ (q : WriteBookOutcome). q .said) (kept .write-book book room o p ∙ write-book-gives book room)) in
           (judged, λ low. book-good (o .said) low book judged)
+          );
+      repair-book = λ text room o p. (
+          let e = ap (λ (q : RepairBookOutcome). q .said) (kept .repair-book text room o p ∙ repair-gives text room) in
+          (mail-line text room (o .said) e, mail-passes text room (o .said) e)
           );
       read-term = λ text room o p. (
           let e = ap (λ (q : ReadTermOutcome). q .said) (kept .read-term text room o p ∙ read-term-gives text room) in

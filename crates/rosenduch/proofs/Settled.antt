@@ -15,6 +15,7 @@ settles ops kept =
       simplify = λ book tree term budget room o p x y. settled _ o p (kept .simplify book tree term budget room o x) (kept .simplify book tree term budget room p y);
       read-book = λ text room o p x y. settled _ o p (kept .read-book text room o x) (kept .read-book text room p y);
       write-book = λ book room o p x y. settled _ o p (kept .write-book book room o x) (kept .write-book book room p y);
+      repair-book = λ text room o p x y. settled _ o p (kept .repair-book text room o x) (kept .repair-book text room p y);
       read-term = λ text room o p x y. settled _ o p (kept .read-term text room o x) (kept .read-term text room p y);
       write-term = λ term room o p x y. settled _ o p (kept .write-term term room o x) (kept .write-term term room p y);
     }

@@ -14,6 +14,7 @@ use Rattle.fit.specs.Match.{MatchRuleOutcome, matchRuleGives}
 use Rattle.tree.specs.Layout.{treeWords}
 use Rattle.compiler.specs.Compiled.{CompileOutcome, compileGives}
 use Rattle.walk.specs.ByTree.{MatchTreeOutcome, matchTreeGives}
+use Rattle.mend.proofs.Laws.{wrong-repairs}
 use Rattle.steps.specs.Simplify.{SimplifyOutcome, simplifyGives}
 use Rattle.rosenduch.specs.WrongPrograms.{onlyRefuses, sameBody, onlyRule0, onlyNone, handsBack, oneStep, inventsCount, dropsRow, passesEarlierRow, WrongTree, p1, p3, p6, firstTerm, twoRows, secondFits, exchanged, AllShutOut}
 use Rattle.rosenduch.proofs.Computed.{matches-computed, trees-computed, runs-computed, compilers-computed}
@@ -90,4 +91,5 @@ all-shut-out =
       second-uncounted = λ e. apart _ _ 1 0 (matches-computed .9) (matches-computed .10) (λ z. omega (arith, z)) (ap said-number e);
       drops-row = wrong-tree dropsRow twoRows secondFits drops-row;
       passes-earlier-row = wrong-tree passesEarlierRow exchanged p6 passes-earlier-row;
+      wrong-repairs = wrong-repairs;
     }

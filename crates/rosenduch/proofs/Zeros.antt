@@ -28,6 +28,9 @@ use Rattle.steps.specs.Rewrite.{rewriteRoot, RewriteRootOutcome}
 use Rattle.steps.specs.Simplify.{Run, Stopped, Ended, simplifyBy, simplify, simplifyAnswer, simplifyWords, SimplifyOutcome}
 use Rattle.steps.proofs.Laws.{EndsAs, rests, used, RunIs, run-is, simplify-bad-book, simplify-bad-term, simplify-runs, stopped-run, ended-run}
 use Rattle.text.specs.TermText.{termSaid, readAnswer, writeAnswer, ReadTermOutcome, WriteTermOutcome}
+use Rattle.text.specs.Mail.{mailSaid}
+use Rattle.mend.specs.Repair.{repairAnswer, RepairBookOutcome}
+use Rattle.mend.proofs.Laws.{repair-gives, repair-zeros}
 use Rattle.text.specs.BookText.{bookSaid, readBookAnswer, writeBookAnswer, ReadBookOutcome, WriteBookOutcome}
 use Rattle.text.proofs.Laws.{read-term-gives, write-term-gives, read-book-gives, write-book-gives, read-term-zeros, write-term-zeros, read-book-zeros, write-book-zeros}
 use Rattle.rosenduch.specs.Operations.{Operations, Promised}
@@ -128,6 +131,10 @@ leaves-zeros ops kept =
       write-book = λ book room o p h. (
           let e = kept .write-book book room o p ∙ write-book-gives book room in
           ap (λ (q : WriteBookOutcome). q .out) e ∙ write-book-zeros room book (not-done (writeBookAnswer room book) (told (o .said) (writeBookAnswer room book) (ap (λ (q : WriteBookOutcome). q .said) e) h))
+          );
+      repair-book = λ text room o p h. (
+          let e = kept .repair-book text room o p ∙ repair-gives text room in
+          ap (λ (q : RepairBookOutcome). q .out) e ∙ repair-zeros room (mailSaid text) (not-done (repairAnswer room (mailSaid text)) (told (o .said) (repairAnswer room (mailSaid text)) (ap (λ (q : RepairBookOutcome). q .said) e) h))
           );
       read-term = λ text room o p h. (
           let e = kept .read-term text room o p ∙ read-term-gives text room in

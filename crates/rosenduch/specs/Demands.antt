@@ -1,5 +1,5 @@
 -- The three demands, each as one record: the demand's words in the comments, and below them what they became. All is said of words in memory, and
--- of whatever the twelve operations may hand back (Operations.antt). The first clause of demand 1 is about the code alone: crate `demands` says it.
+-- of whatever the thirteen operations may hand back (Operations.antt). The first clause of demand 1 is about the code alone: crate `demands` says it.
 use Prim.Native.Nat.{ℕ, _-_, _≤_, _<_}
 use mathlib.Core.Path.{_≡_}
 use mathlib.Core.Bool.{true, false}
@@ -26,6 +26,8 @@ use Rattle.steps.specs.Right.{write}
 use Rattle.steps.specs.Rewrite.{RewriteRootOutcome}
 use Rattle.steps.specs.Simplify.{SimplifyOutcome}
 use Rattle.text.specs.TermText.{says, badLine, termSaid, ReadTermOutcome, WriteTermOutcome}
+use Rattle.text.specs.Mail.{mailIs, badMail, mailSaid}
+use Rattle.mend.specs.Repair.{RepairBookOutcome}
 use Rattle.text.specs.BookText.{bookSaid, ReadBookOutcome, WriteBookOutcome}
 use Rattle.rosenduch.specs.Operations.{Operations}
 use Rattle.rosenduch.specs.Steps.{Leaves, Leads, Runs, RestsBy, NextBy, BreaksBy, RestsFit, NextFit, BreaksNever}
@@ -88,6 +90,9 @@ pub record RefusesBad (ops : Operations) : Type 0 where
   pub write-book : (book : List ℕ) (room : ℕ) (o : WriteBookOutcome) → ops .write-book book room o
       → BookJudged book (o .said)
       × (o .said .number < 10 → checkBook book ≡ Good)
+  pub repair-book : (text : List ℕ) (room : ℕ) (o : RepairBookOutcome) → ops .repair-book text room o
+      → ((at : ℕ) → mailSaid text ≡ badMail at → o .said ≡ saying 10 at)
+      × (o .said .number < 10 → (stated : ℕ) × (rules : List (List ℕ)) × (mailSaid text ≡ mailIs stated rules))
   pub read-term : (text : List ℕ) (room : ℕ) (o : ReadTermOutcome) → ops .read-term text room o
       → ((at : ℕ) → termSaid text ≡ badLine at → o .said ≡ saying 10 at)
       × ((term : List ℕ) → termSaid text ≡ says term → TermJudged term (o .said))
@@ -109,6 +114,7 @@ pub record LeavesZeros (ops : Operations) : Type 0 where
   pub simplify : (book tree term : List ℕ) (budget room : ℕ) (o : SimplifyOutcome) → ops .simplify book tree term budget room o → Zeros (o .said) room (o .out)
   pub read-book : (text : List ℕ) (room : ℕ) (o : ReadBookOutcome) → ops .read-book text room o → Zeros (o .said) room (o .out)
   pub write-book : (book : List ℕ) (room : ℕ) (o : WriteBookOutcome) → ops .write-book book room o → Zeros (o .said) room (o .out)
+  pub repair-book : (text : List ℕ) (room : ℕ) (o : RepairBookOutcome) → ops .repair-book text room o → Zeros (o .said) room (o .out)
   pub read-term : (text : List ℕ) (room : ℕ) (o : ReadTermOutcome) → ops .read-term text room o → Zeros (o .said) room (o .out)
   pub write-term : (term : List ℕ) (room : ℕ) (o : WriteTermOutcome) → ops .write-term term room o → Zeros (o .said) room (o .out)
 

@@ -1,5 +1,6 @@
 pub mod Operations
 pub mod Steps
 pub mod Demands
+pub mod Repairs
 pub mod Marked
 pub mod WrongPrograms

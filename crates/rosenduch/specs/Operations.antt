@@ -1,5 +1,5 @@
--- The twelve operations as relations: from what each is given, the room of the output lent to it among it, to all that may come back. The demands
--- speak of any such twelve; the crate `demands` says them of the twelve functions for Rust and of the twelve for C. Sixteen lengths always have room.
+-- The thirteen operations as relations: from what each is given, the room of the output lent to it among it, to all that may come back. The demands
+-- speak of any such thirteen; the crate `demands` says them of the functions for Rust and of those for C. Sixteen lengths always have room.
 use Prim.Native.Nat.{ℕ}
 use mathlib.Core.Path.{_≡_}
 use mathlib.Core.List.{List}
@@ -13,6 +13,7 @@ use Rattle.walk.specs.ByTree.{MatchTreeOutcome, matchTreeGives}
 use Rattle.steps.specs.Rewrite.{RewriteRootOutcome, rewriteRootGives}
 use Rattle.steps.specs.Simplify.{SimplifyOutcome, simplifyGives}
 use Rattle.text.specs.TermText.{ReadTermOutcome, readTermGives, WriteTermOutcome, writeTermGives}
+use Rattle.mend.specs.Repair.{RepairBookOutcome, repairBookGives}
 use Rattle.text.specs.BookText.{ReadBookOutcome, readBookGives, WriteBookOutcome, writeBookGives}
 
 pub record Operations : Type 1 where
@@ -26,6 +27,7 @@ pub record Operations : Type 1 where
   pub simplify : (book tree term : List ℕ) (budget room : ℕ) (o : SimplifyOutcome) → Type 0
   pub read-book : (text : List ℕ) (room : ℕ) (o : ReadBookOutcome) → Type 0
   pub write-book : (book : List ℕ) (room : ℕ) (o : WriteBookOutcome) → Type 0
+  pub repair-book : (text : List ℕ) (room : ℕ) (o : RepairBookOutcome) → Type 0
   pub read-term : (text : List ℕ) (room : ℕ) (o : ReadTermOutcome) → Type 0
   pub write-term : (term : List ℕ) (room : ℕ) (o : WriteTermOutcome) → Type 0
 
@@ -42,6 +44,7 @@ pub record Promised (ops : Operations) : Type 0 where
   pub simplify : (book tree term : List ℕ) (budget room : ℕ) (o : SimplifyOutcome) → ops .simplify book tree term budget room o → o ≡ simplifyGives book tree term budget room
   pub read-book : (text : List ℕ) (room : ℕ) (o : ReadBookOutcome) → ops .read-book text room o → o ≡ readBookGives text room
   pub write-book : (book : List ℕ) (room : ℕ) (o : WriteBookOutcome) → ops .write-book book room o → o ≡ writeBookGives book room
+  pub repair-book : (text : List ℕ) (room : ℕ) (o : RepairBookOutcome) → ops .repair-book text room o → o ≡ repairBookGives text room
   pub read-term : (text : List ℕ) (room : ℕ) (o : ReadTermOutcome) → ops .read-term text room o → o ≡ readTermGives text room
   pub write-term : (term : List ℕ) (room : ℕ) (o : WriteTermOutcome) → ops .write-term term room o → o ≡ writeTermGives term room
 
@@ -57,5 +60,6 @@ pub record Settles (ops : Operations) : Type 0 where
   pub simplify : (book tree term : List ℕ) (budget room : ℕ) (o p : SimplifyOutcome) → ops .simplify book tree term budget room o → ops .simplify book tree term budget room p → o ≡ p
   pub read-book : (text : List ℕ) (room : ℕ) (o p : ReadBookOutcome) → ops .read-book text room o → ops .read-book text room p → o ≡ p
   pub write-book : (book : List ℕ) (room : ℕ) (o p : WriteBookOutcome) → ops .write-book book room o → ops .write-book book room p → o ≡ p
+  pub repair-book : (text : List ℕ) (room : ℕ) (o p : RepairBookOutcome) → ops .repair-book text room o → ops .repair-book text room p → o ≡ p
   pub read-term : (text : List ℕ) (room : ℕ) (o p : ReadTermOutcome) → ops .read-term text room o → ops .read-term text room p → o ≡ p
   pub write-term : (term : List ℕ) (room : ℕ) (o p : WriteTermOutcome) → ops .write-term term room o → ops .write-term term room p → o ≡ p

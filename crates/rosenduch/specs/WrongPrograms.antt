@@ -35,6 +35,7 @@ use Rattle.tree.specs.Layout.{layout, treeWords}
 use Rattle.compiler.specs.Compiled.{CompileOutcome, compileCame, compileGives}
 use Rattle.walk.specs.ByTree.{MatchTreeOutcome, matchTreeCame, matchTreeGives}
 use Rattle.steps.specs.Simplify.{SimplifyOutcome, simplifyCame, simplifyGives}
+use Rattle.mend.specs.WrongRepairs.{WrongRepairs}
 
 -- ==== matching one rule
 
@@ -278,3 +279,6 @@ pub record AllShutOut : Type 0 where
   pub drops-row : WrongTree dropsRow twoRows secondFits
   -- "Taking the first all-variable row, though an earlier row still stands (P6 with rules 1 and 2 exchanged)."
   pub passes-earlier-row : WrongTree passesEarlierRow exchanged p6
+  -- those of document 02's E1: one that keeps 65, one that compares `rules=` with the rules kept, one that writes the new number first, one that drops a
+  -- sound rule after a bad one
+  pub wrong-repairs : WrongRepairs

@@ -1,4 +1,4 @@
-// The twelve public operations. Each takes every input, ends, and answers with document 01's numbers (`term::answer`). After a refusal, 10 or
+// The thirteen public operations. Each takes every input, ends, and answers with document 01's numbers (`term::answer`). After a refusal, 10 or
 // more, each lent output holds zeros alone. What comes back is what the definition `xGives` of the crate that does the work gives.
 ghost use mathlib.Core.Path.{_≡_};
 ghost use lib.ListN.{length};
@@ -12,6 +12,7 @@ ghost use Rattle.walk.specs.ByTree.{matchTreeCame, matchTreeGives};
 ghost use Rattle.steps.specs.Rewrite.{rewriteRootCame, rewriteRootGives};
 ghost use Rattle.steps.specs.Simplify.{simplifyCame, simplifyGives};
 ghost use Rattle.text.specs.TermText.{readTermCame, readTermGives, writeTermCame, writeTermGives};
+ghost use Rattle.mend.specs.Repair.{repairBookCame, repairBookGives};
 ghost use Rattle.text.specs.BookText.{readBookCame, readBookGives, writeBookCame, writeBookGives};
 use book::accept::Accepted;
 use compiler::compile::Compiled;
@@ -124,6 +125,14 @@ pub fn write_book(book: &[u32], out: &mut [u8]) -> Answer
     ensures { λ r. ⌜ writeBookCame (answered r) (now (out .exit)) ≡ writeBookGives (now (book .entry)) (length (now (out .entry))) ⌝ }
 {
     text::write_book::write_book(book, out)
+}
+
+// Repairs the text of a book that came by mail. Done, with the text of the new book, a line for each rule that was there and zeros after them;
+// else BadText with the line, or Short where the new book's text is over 65,536 bytes or there is no room.
+pub fn repair_book(text: &[u8], out: &mut [u8]) -> Answer
+    ensures { λ r. ⌜ repairBookCame (answered r) (now (out .exit)) ≡ repairBookGives (now (text .entry)) (length (now (out .entry))) ⌝ }
+{
+    mend::repair::repair_book(text, out)
 }
 
 // Reads the text of a term. Done, with the term and zeros after it; else BadText with the line, BadTerm, or Short.
