@@ -94,7 +94,8 @@ fn take_rule(words: &[u32]) -> Option<(Rule, &[u32])> {
     Some((rule, &sides[l + r..]))
 }
 
-fn lay_rule(vars: usize, left: &[u32], right: &[u32]) -> Option<Rule> {
+/// Lays out a rule that keeps the book rules.
+pub(crate) fn lay_rule(vars: usize, left: &[u32], right: &[u32]) -> Option<Rule> {
     let whole = |side| first_bad(side, MAX_SIDE, MAX_SIDE_NESTING, in_table).is_none();
     if !whole(left) || !whole(right) {
         return None;

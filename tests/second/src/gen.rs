@@ -227,7 +227,7 @@ pub fn book_words(rules: &[Source]) -> Vec<u32> {
     words
 }
 
-fn side_is_whole(side: &[u32]) -> bool {
+pub(crate) fn side_is_whole(side: &[u32]) -> bool {
     first_bad(side, MAX_SIDE, MAX_SIDE_NESTING, in_table).is_none()
 }
 

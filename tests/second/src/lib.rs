@@ -1,4 +1,5 @@
-//! An independent second program for document 01 (01-scope.md).
+//! An independent second program for document 01 (01-scope.md) and for the
+//! request E1 of document 02 (02-change-requests.md).
 //!
 //! One module per subject; the public operations are gathered here.
 
@@ -7,8 +8,10 @@ pub mod book;
 pub mod compile;
 pub mod fit;
 pub mod gen;
+pub mod gen_repair;
 pub mod program;
 pub mod renumber;
+pub mod repair;
 pub mod right;
 pub mod rng;
 pub mod simplify;
@@ -22,6 +25,7 @@ pub use book::check_book;
 pub use compile::compile;
 pub use fit::{build_left, match_rule};
 pub use program::run_file;
+pub use repair::{repair_book, repair_file};
 pub use rng::Rng;
 pub use simplify::{rewrite_root, simplify};
 pub use term::check_term;

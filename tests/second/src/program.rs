@@ -13,8 +13,13 @@ pub const BUDGET: u16 = 1_000;
 pub fn run_file(input: &[u8]) -> Vec<u8> {
     match report(input) {
         Ok(text) => text.into_bytes(),
-        Err(answer) => format!("answer={}\nat={}\n", answer.number, answer.at).into_bytes(),
+        Err(answer) => refusal(answer).into_bytes(),
     }
+}
+
+/// What is printed for a refused file.
+pub(crate) fn refusal(answer: Answer) -> String {
+    format!("answer={}\nat={}\n", answer.number, answer.at)
 }
 
 fn report(input: &[u8]) -> Result<String, Answer> {

@@ -94,24 +94,47 @@ fn tokens(text: &[u8], most: usize) -> Option<Vec<u32>> {
     (found.len() <= most).then_some(found)
 }
 
+/// The number, from 0 to `most`, in the line with this key.
+pub(crate) fn value(line: &[u8], key: &str, most: usize) -> Option<u32> {
+    number(line.strip_prefix(key.as_bytes())?, 0, most as u32)
+}
+
+/// The words in the line of a side with this key.
+fn side(line: &[u8], key: &str) -> Option<Vec<u32>> {
+    tokens(line.strip_prefix(key.as_bytes())?, MAX_SIDE)
+}
+
+/// What the lines of a rule after `rule=` say; they are in form only.
+pub(crate) struct Stated {
+    pub vars: u32,
+    pub left: Vec<u32>,
+    pub right: Vec<u32>,
+}
+
+/// The lines due of a rule after `rule=`.
+pub(crate) fn take_stated(lines: &mut Lines) -> Result<Stated, Answer> {
+    let vars = lines.take(|line| value(line, "vars=", MAX_VARS))?;
+    let left = lines.take(|line| side(line, "left="))?;
+    let right = lines.take(|line| side(line, "right="))?;
+    Ok(Stated { vars, left, right })
+}
+
+/// The first line of every book.
+pub(crate) fn take_book_line(lines: &mut Lines) -> Result<(), Answer> {
+    lines.take(|line| (line == b"book=1").then_some(()))
+}
+
 /// The words of the book that the text begins with; they are in form only.
 pub fn take_book(lines: &mut Lines) -> Result<Vec<u32>, Answer> {
-    let value = |line: &[u8], key: &str, most: usize| {
-        number(line.strip_prefix(key.as_bytes())?, 0, most as u32)
-    };
-    let side = |line: &[u8], key: &str| tokens(line.strip_prefix(key.as_bytes())?, MAX_SIDE);
-
-    lines.take(|line| (line == b"book=1").then_some(()))?;
+    take_book_line(lines)?;
     let rules = lines.take(|line| value(line, "rules=", MAX_RULES))?;
     let mut words = vec![rules];
     for n in 0..rules {
         lines.take(|line| value(line, "rule=", MAX_RULES).filter(|&given| given == n))?;
-        let vars = lines.take(|line| value(line, "vars=", MAX_VARS))?;
-        let left = lines.take(|line| side(line, "left="))?;
-        let right = lines.take(|line| side(line, "right="))?;
-        words.extend([vars, left.len() as u32, right.len() as u32]);
-        words.extend(left);
-        words.extend(right);
+        let rule = take_stated(lines)?;
+        words.extend([rule.vars, rule.left.len() as u32, rule.right.len() as u32]);
+        words.extend(rule.left);
+        words.extend(rule.right);
     }
     Ok(words)
 }
@@ -154,7 +177,7 @@ pub fn words_text(words: &[u32]) -> String {
     words.iter().map(token).collect::<Vec<_>>().join(" ")
 }
 
-fn book_text(book: &Book) -> String {
+pub(crate) fn book_text(book: &Book) -> String {
     let mut text = format!("book=1\nrules={}\n", book.rules.len());
     for (n, rule) in book.rules.iter().enumerate() {
         let left = words_text(&rule.left.words);
