@@ -48,6 +48,8 @@ extern "C" {
 #define ROSENDUCH_MOST_TREE 16384u
 #define ROSENDUCH_MOST_TEXT 65536u
 #define ROSENDUCH_MOST_BODIES 65536u
+/* The text of a repaired book: the book, as many bytes again for a line for each rule, and 16 for the last line. */
+#define ROSENDUCH_MOST_REPAIRED 131088u
 /* The number of lengths beside a list of bodies. */
 #define ROSENDUCH_LENGTHS 16u
 
@@ -98,6 +100,14 @@ uint32_t rosenduch_read_book(const uint8_t *text, size_t text_len, uint32_t *out
 
 /* Writes the text of a book, with no zero byte of its own. out gets its bytes. Answers 0, 12 or 13. */
 uint32_t rosenduch_write_book(const uint32_t *book, size_t book_len, uint8_t *out, size_t out_len, size_t *at);
+
+/*
+ * Repairs the text of a book that came by mail: leaves out the rules that break the book rules, numbers the others from 0 on, and keeps the first
+ * 64. What the text numbers its rules does not count. out gets the text of the new book; then a line for each rule present, by its old number
+ * from 0, `dropped=<old>` or `kept=<old> <new>`; then `rules-was=<number>` where the text's `rules=` is not the number of rules present. It has no
+ * zero byte of its own. Answers 0, 10 or 13.
+ */
+uint32_t rosenduch_repair_book(const uint8_t *text, size_t text_len, uint8_t *out, size_t out_len, size_t *at);
 
 /* Reads the text of a term: its tokens and the end of the line. out gets its words. Answers 0, 10, 11 or 13. */
 uint32_t rosenduch_read_term(const uint8_t *text, size_t text_len, uint32_t *out, size_t out_len, size_t *at);

@@ -68,6 +68,7 @@ extern "C" {
     ) -> u32;
     fn rosenduch_read_book(text: *const u8, text_len: usize, out: *mut u32, out_len: usize, at: *mut usize) -> u32;
     fn rosenduch_write_book(book: *const u32, book_len: usize, out: *mut u8, out_len: usize, at: *mut usize) -> u32;
+    fn rosenduch_repair_book(text: *const u8, text_len: usize, out: *mut u8, out_len: usize, at: *mut usize) -> u32;
     fn rosenduch_read_term(text: *const u8, text_len: usize, out: *mut u32, out_len: usize, at: *mut usize) -> u32;
     fn rosenduch_write_term(term: *const u32, term_len: usize, out: *mut u8, out_len: usize, at: *mut usize) -> u32;
 }
@@ -175,6 +176,11 @@ pub fn read_book(text: &[u8], out: &mut [u32]) -> Answer {
 /// Writes the text of a book: 0, 12 or 13.
 pub fn write_book(book: &[u32], out: &mut [u8]) -> Answer {
     answer(|at| unsafe { rosenduch_write_book(book.as_ptr(), book.len(), out.as_mut_ptr(), out.len(), at) })
+}
+
+/// Repairs the text of a book that came by mail: 0, 10 or 13.
+pub fn repair_book(text: &[u8], out: &mut [u8]) -> Answer {
+    answer(|at| unsafe { rosenduch_repair_book(text.as_ptr(), text.len(), out.as_mut_ptr(), out.len(), at) })
 }
 
 /// Reads the text of a term: 0, 10, 11 or 13.

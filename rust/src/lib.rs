@@ -30,12 +30,12 @@ mod length;
 
 pub use answer::{Answer, Refused, BUDGET_USED, DONE, NO_FIT};
 
-/// The twelve operations as they are: the caller lends every output, of any length. After a refusal, and where no rule fits, every lent
+/// The thirteen operations as they are: the caller lends every output, of any length. After a refusal, and where no rule fits, every lent
 /// output is zero; else what a result leaves unused is zero.
 pub mod raw {
     pub use crate::foreign::{
-        build_left, check_book, check_term, compile, match_rule, match_tree, read_book, read_term, rewrite_root, simplify, write_book,
-        write_term,
+        build_left, check_book, check_term, compile, match_rule, match_tree, read_book, read_term, repair_book, rewrite_root, simplify,
+        write_book, write_term,
     };
 }
 
@@ -47,6 +47,8 @@ pub const MOST_BOOK: usize = 1 + 64 * (3 + 64 + 64);
 pub const MOST_TREE: usize = 16_384;
 /// The most bytes of a text.
 pub const MOST_TEXT: usize = 65_536;
+/// The most bytes of the text of a repaired book: the book, as many again for a line for each rule, and 16 for the last line.
+pub const MOST_REPAIRED: usize = 2 * MOST_TEXT + 16;
 /// The most words of all bodies: sixteen variables, each with a whole term.
 pub const MOST_BODIES: usize = 16 * MOST_TERM;
 
@@ -169,6 +171,25 @@ pub fn read_book(text: impl AsRef<[u8]>) -> Result<Vec<u32>, Refused> {
 pub fn write_book(book: &[u32]) -> Result<String, Refused> {
     let mut out = vec![0; MOST_TEXT];
     raw::write_book(book, &mut out).accepted()?;
+    Ok(text_in(&out))
+}
+
+/// The text of a book that came by mail, repaired: a book of the rules that keep the book rules, 64 at most, numbered from 0 on; then a line for
+/// each rule of the text, `dropped=` with its old number or `kept=` with its old and its new one; then `rules-was=` with the number that `rules=`
+/// stated, where another number of rules is there. Old numbers are positions from 0, whatever `rule=` says.
+///
+/// ```
+/// let mail = "book=1\nrules=3\n\
+///     rule=4\nvars=1\nleft=s2.1 m0.0\nright=v1\n\
+///     rule=7\nvars=1\nleft=s3.1 m0.0\nright=m0.0\n";
+/// let repaired = "book=1\nrules=1\n\
+///     rule=0\nvars=1\nleft=s3.1 m0.0\nright=m0.0\n\
+///     dropped=0\nkept=1 0\nrules-was=3\n";
+/// assert_eq!(rosenduch::repair_book(mail), Ok(repaired.to_string()));
+/// ```
+pub fn repair_book(text: impl AsRef<[u8]>) -> Result<String, Refused> {
+    let mut out = vec![0; MOST_REPAIRED];
+    raw::repair_book(text.as_ref(), &mut out).accepted()?;
     Ok(text_in(&out))
 }
 

@@ -46,6 +46,28 @@ fn text_is_read_and_written() {
 }
 
 #[test]
+fn a_sound_book_is_repaired_to_itself() {
+    with_stack(|| {
+        let repaired = rosenduch::repair_book(BOOK_A)?;
+        assert_eq!(repaired, format!("{BOOK_A}kept=0 0\nkept=1 1\nkept=2 2\n"));
+        Ok(())
+    });
+}
+
+#[test]
+fn a_bad_rule_is_left_out() {
+    with_stack(|| {
+        // Rule 1 names an abstraction that is not there.
+        let bad = BOOK_A.replace("left=s3.1 l m0.0", "left=s3.1 m0.1 v1").replace("rules=3", "rules=4");
+        let repaired = rosenduch::repair_book(&bad)?;
+        let book = repaired.split_once("kept=").map_or("", |(book, _)| book);
+        assert_eq!(rosenduch::write_book(&rosenduch::read_book(book)?)?, book);
+        assert!(repaired.ends_with("kept=0 0\ndropped=1\nkept=2 1\nrules-was=4\n"));
+        Ok(())
+    });
+}
+
+#[test]
 fn marked_matches_of_book_a() {
     with_stack(|| {
         let book = rosenduch::read_book(BOOK_A)?;
@@ -85,6 +107,7 @@ fn refusals_have_number_and_place() {
         assert_eq!(rosenduch::check_term(&[]), Err(Refused { number: 11, at: 0 }));
         assert_eq!(rosenduch::check_book(&[]), Err(Refused { number: 12, at: 0 }));
         assert_eq!(rosenduch::read_term("s7.0"), Err(Refused { number: 10, at: 1 }));
+        assert_eq!(rosenduch::repair_book("book=1\nrules=1\nrule=0\n"), Err(Refused { number: 10, at: 4 }));
         let book = rosenduch::read_book(BOOK_A)?;
         let refused = rosenduch::match_rule(&book, 3, &[]).unwrap_err();
         assert_eq!(refused, Refused { number: 16, at: 3 });
