@@ -14,6 +14,7 @@ pub enum Case {
     WriteBook { book: Vec<u32>, room: usize },
     ReadTerm { text: Vec<u8>, room: usize },
     WriteTerm { term: Vec<u32>, room: usize },
+    RepairBook { text: Vec<u8>, room: usize },
 }
 
 /// An operation's name, and the numbers of document 01 that it can answer with.
@@ -26,8 +27,8 @@ const fn operation(name: &'static str, numbers: &'static [u32]) -> Operation {
     Operation { name, numbers }
 }
 
-/// The twelve operations, in the order of `Case`.
-pub const OPERATIONS: [Operation; 12] = [
+/// The thirteen operations, in the order of `Case`.
+pub const OPERATIONS: [Operation; 13] = [
     operation("check_term", &[0, 11]),
     operation("check_book", &[0, 12]),
     operation("match_rule", &[0, 1, 11, 12, 13, 16]),
@@ -40,6 +41,7 @@ pub const OPERATIONS: [Operation; 12] = [
     operation("write_book", &[0, 12, 13]),
     operation("read_term", &[0, 10, 11, 13]),
     operation("write_term", &[0, 11, 13]),
+    operation("repair_book", &[0, 10, 13]),
 ];
 
 impl Case {
@@ -58,6 +60,7 @@ impl Case {
             Case::WriteBook { .. } => 9,
             Case::ReadTerm { .. } => 10,
             Case::WriteTerm { .. } => 11,
+            Case::RepairBook { .. } => 12,
         }
     }
 
@@ -74,7 +77,8 @@ impl Case {
             | Case::ReadBook { room, .. }
             | Case::WriteBook { room, .. }
             | Case::ReadTerm { room, .. }
-            | Case::WriteTerm { room, .. } => Some(room),
+            | Case::WriteTerm { room, .. }
+            | Case::RepairBook { room, .. } => Some(room),
         }
     }
 
@@ -86,6 +90,7 @@ impl Case {
             Case::Compile { .. } => rosenduch::MOST_TREE,
             Case::ReadBook { .. } => rosenduch::MOST_BOOK,
             Case::WriteBook { .. } | Case::WriteTerm { .. } => rosenduch::MOST_TEXT,
+            Case::RepairBook { .. } => rosenduch::MOST_REPAIRED,
             _ => rosenduch::MOST_TERM,
         }
     }

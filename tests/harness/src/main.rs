@@ -5,7 +5,7 @@
 //! - `harness stack`: the edges in the library alone, within the stack that the process was given.
 //! - `harness soak SECONDS`: cases of fresh seeds until the time is over; 0 is for ever.
 //! - `harness show SEED`: the case of one seed, and what both make of it.
-//! - `harness program PATH`: the program `simplify` at that path, on files.
+//! - `harness program NAME PATH`: the program of that name, `simplify` or `repair`, at that path, on files.
 
 mod case;
 mod edges;
@@ -84,7 +84,7 @@ fn main() -> ExitCode {
         Some("stack") => ended(counted(run::stack())),
         Some("soak") => ended(soak(number(1).unwrap_or(0))),
         Some("show") => ended(run::show(number(1).unwrap_or(0))),
-        Some("program") if words.len() > 1 => ended(program::run(&words[1])),
+        Some("program") if words.len() > 2 => ended(program::run(&words[1], &words[2])),
         _ => ended(Err("harness: compare, edges, stack, soak, show or program".to_string())),
     }
 }

@@ -2,6 +2,7 @@
 //! here, one kind at a time, so that each kind can be counted.
 
 use second::gen::{self, Alphabet};
+use second::gen_repair::{repair_case, RepairCase};
 use second::{book, Rng};
 
 use crate::case::Case;
@@ -16,7 +17,10 @@ pub struct Made {
 }
 
 /// How often each operation comes up: its place in `OPERATIONS`, once or twice.
-const TURNS: [usize; 17] = [0, 1, 2, 2, 3, 3, 4, 5, 5, 6, 6, 7, 7, 8, 9, 10, 11];
+const TURNS: [usize; 19] = [0, 1, 2, 2, 3, 3, 4, 5, 5, 6, 6, 7, 7, 8, 9, 10, 11, 12, 12];
+
+/// The input of repairing, by which its labels are found.
+pub const MAIL: &str = "mail";
 
 /// The one case of a seed.
 pub fn made(seed: u64) -> Made {
@@ -35,7 +39,8 @@ pub fn made(seed: u64) -> Made {
         8 => maker.read_book(),
         9 => maker.write_book(),
         10 => maker.read_term(),
-        _ => maker.write_term(),
+        11 => maker.write_term(),
+        _ => maker.repair_book(),
     };
     maker.set_room(&mut case);
     Made { case, labels: maker.labels }
@@ -280,16 +285,16 @@ impl Maker {
 
     // ------------------------------------------------------------ outputs
 
-    /// Gives the output its room: long, exact, one short, or any.
+    /// Gives the output its room: long or as it came with the input, exact, one short, or any.
     fn set_room(&mut self, case: &mut Case) {
         let most = case.most_room();
         let Some(room) = case.room() else { return };
-        *room = most;
+        let came = std::mem::replace(room, most);
         let how = self.rng.below(6);
         if how < 3 {
-            let more = self.rng.below(4);
-            *case.room().unwrap_or(&mut 0) += more;
-            return self.label("output", "long");
+            let (how, length) = if came > 0 { ("as it came", came) } else { ("long", most + self.rng.below(4)) };
+            *room = length;
+            return self.label("output", how);
         }
         let need = match outcome::second(case) {
             told if told.number < 10 && told.number != rosenduch::NO_FIT => told.need(case),
@@ -415,5 +420,12 @@ impl Maker {
     fn write_term(&mut self) -> Case {
         let book = gen::book(&mut self.rng, &self.alphabet);
         Case::WriteTerm { term: self.term(&book, 3), room: 0 }
+    }
+
+    /// A text of a book that came by mail, with the room that was made for it.
+    fn repair_book(&mut self) -> Case {
+        let RepairCase { kind, text, out_length } = repair_case(&mut self.rng);
+        self.label(MAIL, kind.name());
+        Case::RepairBook { text, room: out_length }
     }
 }

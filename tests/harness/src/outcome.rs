@@ -53,7 +53,9 @@ impl Outcome {
             Case::MatchRule { .. } | Case::MatchTree { .. } => self.lengths.iter().map(|&length| length as usize).sum(),
             Case::Compile { .. } => self.further as usize,
             Case::ReadBook { .. } => book_length(&self.words),
-            Case::WriteBook { .. } | Case::WriteTerm { .. } => self.bytes.iter().position(|&byte| byte == 0).unwrap_or(self.bytes.len()),
+            Case::WriteBook { .. } | Case::WriteTerm { .. } | Case::RepairBook { .. } => {
+                self.bytes.iter().position(|&byte| byte == 0).unwrap_or(self.bytes.len())
+            }
             _ => second::term::Laid::of(&self.words).end[0],
         }
     }
@@ -119,6 +121,7 @@ pub fn library(case: &Case) -> Outcome {
         Case::WriteBook { book, room } => with_bytes(*room, |out| of_library(raw::write_book(book, out))),
         Case::ReadTerm { text, room } => with_words(*room, |out| of_library(raw::read_term(text, out))),
         Case::WriteTerm { term, room } => with_bytes(*room, |out| of_library(raw::write_term(term, out))),
+        Case::RepairBook { text, room } => with_bytes(*room, |out| of_library(raw::repair_book(text, out))),
     }
 }
 
@@ -154,6 +157,7 @@ pub fn second(case: &Case) -> Outcome {
         Case::WriteBook { book, room } => with_bytes(*room, |out| of_second(second::write_book(book, out))),
         Case::ReadTerm { text, room } => with_words(*room, |out| of_second(second::read_term(text, out))),
         Case::WriteTerm { term, room } => with_bytes(*room, |out| of_second(second::write_term(term, out))),
+        Case::RepairBook { text, room } => with_bytes(*room, |out| of_second(second::repair_book(text, out))),
     }
 }
 

@@ -6,10 +6,8 @@ use second::Rng;
 
 use super::compiling::TREE_A;
 use super::words::{book_a, rule, words};
-use super::{answer, clear, done, edge, fits, flat, Edge, Told, BAD_BOOK, BAD_TERM, NO_ROOM};
+use super::{answer, clear, done, edge, fits, flat, text, Edge, Told, BAD_BOOK, BAD_TERM, BOOK_A, NOT_IN_FORM, NO_ROOM};
 use crate::case::Case;
-
-const NOT_IN_FORM: u32 = 10;
 
 /// A book of so many rules, no two with the same symbol.
 fn book_of(rules: u32) -> Vec<u32> {
@@ -58,16 +56,6 @@ fn texts() -> Vec<Edge> {
     ]
 }
 
-const BOOK_A: &str = "book=1\nrules=3\n\
-    rule=0\nvars=1\nleft=s2.2 m0.0 m0.0\nright=m0.0\n\
-    rule=1\nvars=1\nleft=s3.1 l m0.0\nright=m0.0\n\
-    rule=2\nvars=1\nleft=s3.1 l s4.1 m0.1 v1\nright=s4.1 s3.1 l m0.1 v1\n";
-
-/// Done, with these bytes and zeros after them.
-fn text(bytes: &str) -> Told {
-    Told { bytes: Some(bytes.into()), ..answer(rosenduch::DONE, 0) }
-}
-
 /// Each operation with an output, over document 01's first example, and its result.
 fn with_outputs() -> Vec<(Case, Told)> {
     let (book, tree, term) = (book_a(), words(TREE_A), words("s2.2 s7.0 s7.0"));
@@ -90,6 +78,7 @@ fn with_outputs() -> Vec<(Case, Told)> {
         (Case::WriteBook { book, room }, text(BOOK_A)),
         (Case::ReadTerm { text: b"s2.2 s7.0 s7.0\n".to_vec(), room }, done(term.clone())),
         (Case::WriteTerm { term, room }, text("s2.2 s7.0 s7.0\n")),
+        (Case::RepairBook { text: BOOK_A.into(), room }, text(&(BOOK_A.to_string() + "kept=0 0\nkept=1 1\nkept=2 2\n"))),
     ]
 }
 

@@ -1,4 +1,4 @@
-//! The edges, each by name: a case and what document 01 gives for it, worked out by hand.
+//! The edges, each by name: a case and what document 01 or 02 gives for it, worked out by hand.
 
 mod books;
 mod building;
@@ -8,6 +8,7 @@ mod damage;
 mod listed;
 mod matching;
 mod renumbering;
+pub mod repairing;
 mod rewriting;
 mod simplifying;
 mod terms;
@@ -19,7 +20,7 @@ use std::collections::BTreeSet;
 use crate::case::{Case, OPERATIONS};
 use crate::outcome::Outcome;
 
-/// What document 01 gives for a case. Where a result is not given, the second program alone says it.
+/// What the documents give for a case. Where a result is not given, the second program alone says it.
 pub struct Told {
     number: u32,
     at: u64,
@@ -45,6 +46,11 @@ fn done(words: Vec<u32>) -> Told {
     Told { words: Some(words), ..answer(rosenduch::DONE, 0) }
 }
 
+/// Done, with these bytes and zeros after them.
+fn text(bytes: &str) -> Told {
+    Told { bytes: Some(bytes.into()), ..answer(rosenduch::DONE, 0) }
+}
+
 /// A number with which all that is lent is zero afterwards, and the further result too.
 fn clear(number: u32, at: u64) -> Told {
     Told { number, at, further: Some(0), words: Some(Vec::new()), lengths: Some(Vec::new()), bytes: Some(Vec::new()) }
@@ -56,7 +62,14 @@ fn fits(bodies: &[Vec<u32>]) -> Told {
     Told { lengths: Some(lengths), ..done(bodies.concat()) }
 }
 
+/// Document 01's book A, as a text.
+pub const BOOK_A: &str = "book=1\nrules=3\n\
+    rule=0\nvars=1\nleft=s2.2 m0.0 m0.0\nright=m0.0\n\
+    rule=1\nvars=1\nleft=s3.1 l m0.0\nright=m0.0\n\
+    rule=2\nvars=1\nleft=s3.1 l s4.1 m0.1 v1\nright=s4.1 s3.1 l m0.1 v1\n";
+
 const NONE_FITS: u32 = rosenduch::NO_FIT;
+const NOT_IN_FORM: u32 = 10;
 const BAD_TERM: u32 = 11;
 const BAD_BOOK: u32 = 12;
 const NO_ROOM: u32 = 13;
@@ -105,8 +118,9 @@ impl Edge {
         if self.told.is(outcome) {
             return Ok(());
         }
-        let Told { number, at, further, words, lengths, .. } = &self.told;
-        Err(format!("given: {number} at {at}, further {further:?}, words {words:?}, lengths {lengths:?}\ncame:  {outcome}"))
+        let Told { number, at, further, words, lengths, bytes } = &self.told;
+        let given = format!("{number} at {at}, further {further:?}, words {words:?}, lengths {lengths:?}, bytes {bytes:?}");
+        Err(format!("given: {given}\ncame:  {outcome}"))
     }
 }
 
@@ -125,6 +139,7 @@ pub fn all() -> Result<Vec<Edge>, String> {
         damage::edges(),
         rewriting::edges(),
         simplifying::edges(),
+        repairing::edges(),
     ]);
     let mut names = BTreeSet::new();
     match edges.iter().map(Edge::full_name).find(|name| !names.insert(name.clone())) {
