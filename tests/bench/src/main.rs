@@ -7,7 +7,7 @@ mod workload;
 use std::thread::Builder;
 use std::time::{Duration, Instant};
 
-use workload::{workloads, Workload};
+use workload::{growing, workloads};
 
 const ROUNDS: usize = 11;
 
@@ -45,14 +45,13 @@ fn sorted(mut values: Vec<f64>) -> Vec<f64> {
     values
 }
 
-/// Prints the median ratio, its spread, and the median times.
-fn measure(workload: &Workload, rounds: usize) {
-    let (ours, theirs) = (|| workload.library(), || workload.second());
-    let (often, often_theirs) = (repeats(&ours), repeats(&theirs));
+/// Prints, for two works, the median ratio of their times, its spread, and the median times.
+fn measure(name: &str, ours: &dyn Fn(), theirs: &dyn Fn(), rounds: usize) {
+    let (often, often_theirs) = (repeats(ours), repeats(theirs));
     let (mut ratios, mut own, mut other) = (Vec::new(), Vec::new(), Vec::new());
     for _ in 0..rounds {
-        let a = micros(timed(often, &ours), often);
-        let b = micros(timed(often_theirs, &theirs), often_theirs);
+        let a = micros(timed(often, ours), often);
+        let b = micros(timed(often_theirs, theirs), often_theirs);
         ratios.push(a / b);
         own.push(a);
         other.push(b);
@@ -60,7 +59,7 @@ fn measure(workload: &Workload, rounds: usize) {
     let (ratios, own, other) = (sorted(ratios), sorted(own), sorted(other));
     println!(
         "{:<44} {:>7.3} {:>7.3} to {:>6.3} {:>12.1} {:>12.1}",
-        workload.name,
+        name,
         median(&ratios),
         ratios[0],
         ratios[ratios.len() - 1],
@@ -69,16 +68,22 @@ fn measure(workload: &Workload, rounds: usize) {
     );
 }
 
+/// The columns of what is measured.
+fn title(what: &str, ours: &str, theirs: &str) {
+    println!("{what:<44} {:>7} {:>17} {ours:>12} {theirs:>12}", "ratio", "spread");
+}
+
 fn run(rounds: usize) {
-    println!(
-        "{:<44} {:>7} {:>17} {:>12} {:>12}",
-        "library / second, in the median of the rounds", "ratio", "spread", "library us", "second us"
-    );
+    title("library / second, in the median of the rounds", "library us", "second us");
     for workload in workloads() {
         let facts = workload.facts();
-        measure(&workload, rounds);
+        measure(workload.name, &|| workload.library(), &|| workload.second(), rounds);
         println!("    {facts}");
     }
+    let (all, half) = growing();
+    title("the library alone, all / half", "all us", "half us");
+    measure("repair: 2,259 rules / 1,129 rules", &|| all.library(), &|| half.library(), rounds);
+    println!("    {} / {}", all.facts(), half.facts());
 }
 
 fn main() {

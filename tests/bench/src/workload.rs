@@ -6,15 +6,15 @@ use second::gen::{self, Source};
 use second::words::{pattern, symbol, variable, LAMBDA};
 use second::Rng;
 
-/// What is done with a book: it is compiled, or terms are simplified with its tree.
+/// What is done: a book is compiled, terms are simplified with its tree, or a text of a book that came by mail is repaired.
 enum Work {
-    Compile,
-    Simplify { tree: Vec<u32>, terms: Vec<Vec<u32>> },
+    Compile { book: Vec<u32> },
+    Simplify { book: Vec<u32>, tree: Vec<u32>, terms: Vec<Vec<u32>> },
+    Repair { text: Vec<u8> },
 }
 
 pub struct Workload {
     pub name: &'static str,
-    book: Vec<u32>,
     work: Work,
 }
 
@@ -24,39 +24,51 @@ impl Workload {
     fn simplify(name: &'static str, rules: &[Source], terms: Vec<Vec<u32>>) -> Workload {
         let book = gen::book_words(rules);
         let tree = gen::compiled(&book);
-        Workload { name, book, work: Work::Simplify { tree, terms } }
+        Workload { name, work: Work::Simplify { book, tree, terms } }
     }
 
     fn compile(name: &'static str, book: Vec<u32>) -> Workload {
-        Workload { name, book, work: Work::Compile }
+        Workload { name, work: Work::Compile { book } }
+    }
+
+    fn repair(name: &'static str, text: Vec<u8>) -> Workload {
+        Workload { name, work: Work::Repair { text } }
     }
 
     pub fn library(&self) {
         match &self.work {
-            Work::Compile => {
+            Work::Compile { book } => {
                 let mut out = vec![0; rosenduch::MOST_TREE];
-                black_box(rosenduch::raw::compile(&self.book, &mut out));
+                black_box(rosenduch::raw::compile(book, &mut out));
             }
-            Work::Simplify { tree, terms } => {
+            Work::Simplify { book, tree, terms } => {
                 let mut out = vec![0; rosenduch::MOST_TERM];
                 for term in terms {
-                    black_box(rosenduch::raw::simplify(&self.book, tree, term, BUDGET, &mut out));
+                    black_box(rosenduch::raw::simplify(book, tree, term, BUDGET, &mut out));
                 }
+            }
+            Work::Repair { text } => {
+                let mut out = vec![0; rosenduch::MOST_REPAIRED];
+                black_box(rosenduch::raw::repair_book(text, &mut out));
             }
         }
     }
 
     pub fn second(&self) {
         match &self.work {
-            Work::Compile => {
+            Work::Compile { book } => {
                 let mut out = vec![0; rosenduch::MOST_TREE];
-                black_box(second::compile(&self.book, &mut out));
+                black_box(second::compile(book, &mut out));
             }
-            Work::Simplify { tree, terms } => {
+            Work::Simplify { book, tree, terms } => {
                 let mut out = vec![0; rosenduch::MOST_TERM];
                 for term in terms {
-                    black_box(second::simplify(&self.book, tree, term, BUDGET, &mut out));
+                    black_box(second::simplify(book, tree, term, BUDGET, &mut out));
                 }
+            }
+            Work::Repair { text } => {
+                let mut out = vec![0; rosenduch::MOST_REPAIRED];
+                black_box(second::repair_book(text, &mut out));
             }
         }
     }
@@ -64,28 +76,42 @@ impl Workload {
     /// What the work is, in numbers. Both do the same, and no input is refused.
     pub fn facts(&self) -> String {
         match &self.work {
-            Work::Compile => {
-                let (mut ours, mut theirs) = (vec![0; 16_384], vec![0; 16_384]);
-                let (answer, words) = rosenduch::raw::compile(&self.book, &mut ours);
-                assert_eq!((answer.number, second::compile(&self.book, &mut theirs).number), (0, 0));
-                assert_eq!(ours, theirs);
-                format!("{words} words of tree")
-            }
-            Work::Simplify { tree, terms } => {
-                let mut steps = 0;
-                for term in terms {
-                    let (mut ours, mut theirs) = (vec![0; 4_096], vec![0; 4_096]);
-                    let told = rosenduch::raw::simplify(&self.book, tree, term, BUDGET, &mut ours);
-                    let other = second::simplify(&self.book, tree, term, BUDGET, &mut theirs);
-                    assert!(told.0.number == other.0.number && told.0.number < 10);
-                    assert_eq!((u32::from(told.1), ours), (other.1, theirs));
-                    steps += u32::from(told.1);
-                }
-                let words: usize = terms.iter().map(Vec::len).sum();
-                format!("{} terms, {words} words, {steps} steps", terms.len())
-            }
+            Work::Compile { book } => compiled(book),
+            Work::Simplify { book, tree, terms } => simplified(book, tree, terms),
+            Work::Repair { text } => repaired(text),
         }
     }
+}
+
+fn compiled(book: &[u32]) -> String {
+    let (mut ours, mut theirs) = (vec![0; rosenduch::MOST_TREE], vec![0; rosenduch::MOST_TREE]);
+    let (answer, words) = rosenduch::raw::compile(book, &mut ours);
+    assert_eq!((answer.number, second::compile(book, &mut theirs).number), (0, 0));
+    assert_eq!(ours, theirs);
+    format!("{words} words of tree")
+}
+
+fn simplified(book: &[u32], tree: &[u32], terms: &[Vec<u32>]) -> String {
+    let mut steps = 0;
+    for term in terms {
+        let (mut ours, mut theirs) = (vec![0; rosenduch::MOST_TERM], vec![0; rosenduch::MOST_TERM]);
+        let told = rosenduch::raw::simplify(book, tree, term, BUDGET, &mut ours);
+        let other = second::simplify(book, tree, term, BUDGET, &mut theirs);
+        assert!(told.0.number == other.0.number && told.0.number < 10);
+        assert_eq!((u32::from(told.1), ours), (other.1, theirs));
+        steps += u32::from(told.1);
+    }
+    let words: usize = terms.iter().map(Vec::len).sum();
+    format!("{} terms, {words} words, {steps} steps", terms.len())
+}
+
+fn repaired(text: &[u8]) -> String {
+    let (mut ours, mut theirs) = (vec![0; rosenduch::MOST_REPAIRED], vec![0; rosenduch::MOST_REPAIRED]);
+    let answer = rosenduch::raw::repair_book(text, &mut ours);
+    assert_eq!((answer.number, second::repair_book(text, &mut theirs).number), (0, 0));
+    assert_eq!(ours, theirs);
+    let written = ours.iter().position(|&byte| byte == 0).unwrap_or(ours.len());
+    format!("{} bytes of text, {written} bytes written", text.len())
 }
 
 fn rule(vars: u32, left: &[u32], right: &[u32]) -> Source {
@@ -198,6 +224,26 @@ fn large_book(least: usize) -> Workload {
     }
 }
 
+/// So many of the shortest rules, of which none is sound.
+fn short_rules(name: &'static str, rules: usize) -> Workload {
+    let rule = "rule=0\nvars=0\nleft=l\nright=l\n";
+    Workload::repair(name, format!("book=1\nrules=0\n{}", rule.repeat(rules)).into_bytes())
+}
+
+/// A seeded book of 64 rules, as it is written.
+fn sound_book() -> Workload {
+    let mut rng = Rng::new(5);
+    let alphabet = gen::alphabet(&mut rng);
+    let rules = gen::rules(&mut rng, &alphabet, 64);
+    Workload::repair("repair: a sound book of 64 rules", gen::sources_text(&rules))
+}
+
+/// As many rules as a text holds, and half of them: how the time grows with the bytes.
+pub fn growing() -> (Workload, Workload) {
+    (short_rules("repair: 2,259 rules", 2_259), short_rules("repair: 1,129 rules", 1_129))
+}
+
 pub fn workloads() -> Vec<Workload> {
-    vec![small_terms(500), wide_term(), deep_terms(), binders(), nothing_fits(), large_book(4_000)]
+    let (most_rules, _) = growing();
+    vec![small_terms(500), wide_term(), deep_terms(), binders(), nothing_fits(), large_book(4_000), most_rules, sound_book()]
 }
