@@ -1,9 +1,9 @@
 -- What Switch, Closed and Same say of a state: one law for each way through the code.
 use mathlib.Core.Path.{_≡_, refl, ap, _∙_}
-use mathlib.Core.Bool.{Bool, true, false, _&&_, not}
+use mathlib.Core.Bool.{Bool, true, false}
 use mathlib.Core.List.{List, [], _∷_}
 use mathlib.Core.Option.{Option, none, some}
-use Prim.Native.Nat.{ℕ, zero, suc, _+_, _*_, _-_, _≤_, _<_}
+use Prim.Native.Nat.{ℕ, suc, _+_, _*_, _-_, _≤_, _<_}
 use native.Mathlib.Omega.{arith}
 use lib.Dec.{leb, ltb}
 use lib.ListN.{length, getD, take, drop, length-drop}
@@ -13,14 +13,16 @@ use Rattle.term.specs.Word.{pick}
 use Rattle.term.specs.Row.{node}
 use Rattle.term.specs.Renumber.{goodList}
 use Rattle.term.specs.Part.{isSome, hasBody, sameO, sameBody}
-use Rattle.tree.specs.Find.{PartAt, partOf, enterPart, bodyFor}
-use Rattle.walk.specs.Walk.{DamagedAt, Next, Ends, Goes, unless, goTo, isWord, caseOf, caseNext, switchNode, closedNode, sameNode}
+use Rattle.tree.specs.Find.{PartAt, partOf, bodyFor}
+use Rattle.walk.specs.Walk.{DamagedAt, Next, Ends, unless, goTo, isWord, caseOf, caseNext, switchNode, closedNode, sameNode}
 use Rattle.walk.specs.declared.state.Walk.{Walk}
 use Rattle.walk.specs.declared.taken.Taken.{Taken}
 use Rattle.walk.specs.declared.taken.Taken.the-variants.{To, Not}
 use Rattle.walk.specs.told.Taken.{addressOf, CaseTold, closedTaken, sameTaken}
-use Rattle.walk.specs.told.State.{stoppedAs, placesOf, Parted, Holds, Said, Told, GoTold, EnterTold, CaseTaken, SwitchTold, ClosedTold, SameTold}
-use Rattle.walk.proofs.Tells.{told-same, told-damaged}
+use Rattle.walk.specs.declared.decide.Decision.{Decision}
+use Rattle.walk.specs.declared.decide.Decision.the-variants.{Enter, Stop}
+use Rattle.walk.specs.told.State.{placesOf, Parted, Holds, Decided, GoTold, CaseTaken, SwitchDecided, ClosedDecided, SameDecided}
+use Rattle.walk.proofs.Tells.{decided-same, decided-damaged}
 use Rattle.walk.proofs.Uncovered.{held-length, place-depth, place-entered, place-body, has-body, same-body-is}
 use Rattle.walk.proofs.Entering.{opened}
 
@@ -124,28 +126,28 @@ module _ (table term : List ℕ) (s : Walk) (p : Parted term) (h : Holds term s)
   abbrev place : ℕ
   place = getD table (s .at + 1) 0
 
-  damaged : (next : Next) (r : Walk) → r ≡ stoppedAs s 3 → next ≡ Ends (DamagedAt (s .at)) → Told table term (λ fits. next) r
-  damaged next r e d = rw e (told-damaged table term (λ fits. next) s h (λ fits. d))
+  damaged : (next : Next) → next ≡ Ends (DamagedAt (s .at)) → Decided table term (λ fits. next) s (Stop 3)
+  damaged next e = decided-damaged table term (λ fits. next) s (λ fits. e)
 
   -- Closed
   module _ (inside : s .at < length table) where
-    pub closed-cut : length table - s .at < 3 → (r : Walk) → r ≡ stoppedAs s 3 → ClosedTold table term s r
-    closed-cut l r e = damaged _ r e (closed-short table (s .at) held (drop (s .at + 1) table) (rw (length-drop (s .at + 1) table) (omega arith)))
+    pub closed-cut : length table - s .at < 3 → ClosedDecided table term s (Stop 3)
+    closed-cut l = damaged _ (closed-short table (s .at) held (drop (s .at + 1) table) (rw (length-drop (s .at + 1) table) (omega arith)))
 
-    pub same-cut : length table - s .at < 4 → (r : Walk) → r ≡ stoppedAs s 3 → SameTold table term s r
-    same-cut l r e = damaged _ r e (same-short table (s .at) held (drop (s .at + 1) table) (rw (length-drop (s .at + 1) table) (omega arith)))
+    pub same-cut : length table - s .at < 4 → SameDecided table term s (Stop 3)
+    same-cut l = damaged _ (same-short table (s .at) held (drop (s .at + 1) table) (rw (length-drop (s .at + 1) table) (omega arith)))
 
-    pub switch-cut : length table - s .at < 3 → (r : Walk) → r ≡ stoppedAs s 3 → SwitchTold table term s r
-    switch-cut l r e = damaged _ r e (switch-short table (s .at) held (drop (s .at + 1) table) (rw (length-drop (s .at + 1) table) (omega arith)))
+    pub switch-cut : length table - s .at < 3 → SwitchDecided table term s (Stop 3)
+    switch-cut l = damaged _ (switch-short table (s .at) held (drop (s .at + 1) table) (rw (length-drop (s .at + 1) table) (omega arith)))
 
   module _ (long : s .at + 3 ≤ length table) where
-    pub closed-uncovered : s .count ≤ place → (r : Walk) → r ≡ stoppedAs s 3 → ClosedTold table term s r
-    closed-uncovered l r e =
-        damaged _ r e (rw (two-words table (s .at) long) (closed-nowhere table (s .at) held place (getD table (s .at + 2) 0) (drop (s .at + 3) table) (omega (arith, held-length term s p h))))
+    pub closed-uncovered : s .count ≤ place → ClosedDecided table term s (Stop 3)
+    closed-uncovered l =
+        damaged _ (rw (two-words table (s .at) long) (closed-nowhere table (s .at) held place (getD table (s .at + 2) 0) (drop (s .at + 3) table) (omega (arith, held-length term s p h))))
 
-    pub switch-uncovered : s .count ≤ place → (r : Walk) → r ≡ stoppedAs s 3 → SwitchTold table term s r
-    switch-uncovered l r e =
-        damaged _ r e (rw (two-words table (s .at) long) (switch-nowhere table (s .at) held place (getD table (s .at + 2) 0) (drop (s .at + 3) table) (omega (arith, held-length term s p h))))
+    pub switch-uncovered : s .count ≤ place → SwitchDecided table term s (Stop 3)
+    switch-uncovered l =
+        damaged _ (rw (two-words table (s .at) long) (switch-nowhere table (s .at) held place (getD table (s .at + 2) 0) (drop (s .at + 3) table) (omega (arith, held-length term s p h))))
 
     module _ (i : place < s .count) where
       here : place < length held
@@ -159,16 +161,16 @@ module _ (table term : List ℕ) (s : Walk) (p : Parted term) (h : Holds term s)
             (closed-is table (s .at) held place (getD table (s .at + 2) 0) (drop (s .at + 3) table) (getD (s .depths) place 0) (drop (getD (s .offsets) place 0) term) here (place-depth term s p h place i)
             (λ ys g. ap isSome (place-body term s p h place i ys g) ∙ has-body (getD (s .depths) place 0) ys (drop (getD (s .offsets) place 0) term)))
 
-        pub closed-goes : (to : ℕ) → t ≡ To to → (r : Walk) → GoTold table s to r → ClosedTold table term s r
-        closed-goes to q r g = told-same table term _ (λ fits. goTo table (s .at) to held) r (λ fits. closed-next ∙ ap (takenNext table (s .at) held) q) (g term h)
+        pub closed-goes : (to : ℕ) → t ≡ To to → (d : Decision) → GoTold table (s .at) to d → ClosedDecided table term s d
+        closed-goes to q d g = decided-same table term _ (λ fits. goTo table (s .at) to held) s d (λ fits. closed-next ∙ ap (takenNext table (s .at) held) q) (g term s refl)
 
-        pub closed-damaged : t ≡ Not → (r : Walk) → r ≡ stoppedAs s 3 → ClosedTold table term s r
-        closed-damaged q r z = damaged _ r z (closed-next ∙ ap (takenNext table (s .at) held) q)
+        pub closed-damaged : t ≡ Not → ClosedDecided table term s (Stop 3)
+        closed-damaged q = damaged _ (closed-next ∙ ap (takenNext table (s .at) held) q)
 
       -- Switch
-      pub switch-past : length table - (s .at + 3) ≤ 2 * getD table (s .at + 2) 0 → (r : Walk) → r ≡ stoppedAs s 3 → SwitchTold table term s r
-      switch-past l r e =
-          damaged _ r e
+      pub switch-past : length table - (s .at + 3) ≤ 2 * getD table (s .at + 2) 0 → SwitchDecided table term s (Stop 3)
+      switch-past l =
+          damaged _
           (rw (two-words table (s .at) long)
           (switch-over table (s .at) held place (getD table (s .at + 2) 0) (drop (s .at + 3) table) here (rw (length-drop (s .at + 3) table) l)))
 
@@ -182,27 +184,27 @@ module _ (table term : List ℕ) (s : Walk) (p : Parted term) (h : Holds term s)
             (switch-is table (s .at) held place (getD table (s .at + 2) 0) (drop (s .at + 3) table) (addressOf t) here (rw (length-drop (s .at + 3) table) fits)
             (c (partOf place held .part) (λ v. rw (q .is, q .first))))
 
-        pub switch-goes : t ≡ Not → (r : Walk) → GoTold table s (getD table (s .at + 3 + 2 * getD table (s .at + 2) 0) 0) r → SwitchTold table term s r
-        switch-goes q r g =
-            told-same table term _ (λ fits. goTo table (s .at) (getD table (s .at + 3 + 2 * getD table (s .at + 2) 0) 0) held) r
-            (λ fits. switch-next ∙ rw (q, getD-drop (s .at + 3) table (2 * getD table (s .at + 2) 0) 0)) (g term h)
+        pub switch-goes : t ≡ Not → (d : Decision) → GoTold table (s .at) (getD table (s .at + 3 + 2 * getD table (s .at + 2) 0) 0) d → SwitchDecided table term s d
+        switch-goes q d g =
+            decided-same table term _ (λ fits. goTo table (s .at) (getD table (s .at + 3 + 2 * getD table (s .at + 2) 0) 0) held) s d
+            (λ fits. switch-next ∙ rw (q, getD-drop (s .at + 3) table (2 * getD table (s .at + 2) 0) 0)) (g term s refl)
 
-        pub switch-takes : (to : ℕ) → t ≡ To to → (r : Walk) → CaseTaken table term s place to r → SwitchTold table term s r
-        switch-takes to q r g = told-same table term _ (λ fits. caseNext table (s .at) place held 0 (some to)) r (λ fits. switch-next ∙ rw q) g
+        pub switch-takes : (to : ℕ) → t ≡ To to → (d : Decision) → CaseTaken table (s .at) place (getD (s .entered) place false) to d → SwitchDecided table term s d
+        switch-takes to q d g = decided-same table term _ (λ fits. caseNext table (s .at) place held 0 (some to)) s d (λ fits. switch-next ∙ rw q) (g term s p h refl i refl)
 
   -- Same
   module _ (long : s .at + 4 ≤ length table) where
     abbrev other : ℕ
     other = getD table (s .at + 2) 0
 
-    pub same-uncovered : s .count ≤ place → (r : Walk) → r ≡ stoppedAs s 3 → SameTold table term s r
-    same-uncovered l r e =
-        damaged _ r e (rw (three-words table (s .at) long) (same-nowhere table (s .at) held place other (getD table (s .at + 3) 0) (drop (s .at + 4) table) (omega (arith, held-length term s p h))))
+    pub same-uncovered : s .count ≤ place → SameDecided table term s (Stop 3)
+    same-uncovered l =
+        damaged _ (rw (three-words table (s .at) long) (same-nowhere table (s .at) held place other (getD table (s .at + 3) 0) (drop (s .at + 4) table) (omega (arith, held-length term s p h))))
 
     module _ (i : place < s .count) where
-      pub same-next-uncovered : s .count ≤ other → (r : Walk) → r ≡ stoppedAs s 3 → SameTold table term s r
-      same-next-uncovered l r e =
-          damaged _ r e
+      pub same-next-uncovered : s .count ≤ other → SameDecided table term s (Stop 3)
+      same-next-uncovered l =
+          damaged _
           (rw (three-words table (s .at) long)
           (same-next-nowhere table (s .at) held place other (getD table (s .at + 3) 0) (drop (s .at + 4) table) (omega (arith, held-length term s p h)) (omega (arith, held-length term s p h))))
 
@@ -218,30 +220,29 @@ module _ (table term : List ℕ) (s : Walk) (p : Parted term) (h : Holds term s)
             rw (place-body term s p h place i ys g, place-body term s p h other j zs k)
             (same-body-is (getD (s .depths) place 0) ys (drop (getD (s .offsets) place 0) term) (getD (s .depths) other 0) zs (drop (getD (s .offsets) other 0) term))))
 
-        pub same-goes : (to : ℕ) → t ≡ To to → (r : Walk) → GoTold table s to r → SameTold table term s r
-        same-goes to q r g = told-same table term _ (λ fits. goTo table (s .at) to held) r (λ fits. same-next ∙ ap (takenNext table (s .at) held) q) (g term h)
+        pub same-goes : (to : ℕ) → t ≡ To to → (d : Decision) → GoTold table (s .at) to d → SameDecided table term s d
+        same-goes to q d g = decided-same table term _ (λ fits. goTo table (s .at) to held) s d (λ fits. same-next ∙ ap (takenNext table (s .at) held) q) (g term s refl)
 
-        pub same-damaged : t ≡ Not → (r : Walk) → r ≡ stoppedAs s 3 → SameTold table term s r
-        same-damaged q r z = damaged _ r z (same-next ∙ ap (takenNext table (s .at) held) q)
+        pub same-damaged : t ≡ Not → SameDecided table term s (Stop 3)
+        same-damaged q = damaged _ (same-next ∙ ap (takenNext table (s .at) held) q)
 
   -- a case
   module _ (n : ℕ) (i : n < s .count) (to : ℕ) where
-    pub case-entered : getD (s .entered) n false ≡ true → (r : Walk) → r ≡ stoppedAs s 3 → CaseTaken table term s n to r
-    case-entered o r e = damaged _ r e (rw (place-entered term s p h n i, o))
+    abbrev CaseDecided : Decision → Type 0
+    CaseDecided d = Decided table term (λ fits. caseNext table (s .at) n held 0 (some to)) s d
+
+    pub case-entered : getD (s .entered) n false ≡ true → CaseDecided (Stop 3)
+    case-entered o = damaged _ (rw (place-entered term s p h n i, o))
 
     module _ (o : getD (s .entered) n false ≡ false) where
-      pub case-back : to ≤ s .at → (r : Walk) → r ≡ stoppedAs s 3 → CaseTaken table term s n to r
+      pub case-back : to ≤ s .at → CaseDecided (Stop 3)
       unfolding goTo
-      case-back l r e = damaged _ r e (rw (place-entered term s p h n i, o, le-ltb (s .at) to l))
+      case-back l = damaged _ (rw (place-entered term s p h n i, o, le-ltb (s .at) to l))
 
-      pub case-out : s .at < to → length table ≤ to → (r : Walk) → r ≡ stoppedAs s 3 → CaseTaken table term s n to r
+      pub case-out : s .at < to → length table ≤ to → CaseDecided (Stop 3)
       unfolding goTo
-      case-out l u r e = damaged _ r e (rw (place-entered term s p h n i, o, lt-ltb (s .at) to l, le-ltb to (length table) u))
+      case-out l u = damaged _ (rw (place-entered term s p h n i, o, lt-ltb (s .at) to l, le-ltb to (length table) u))
 
-      pub case-in : s .stands ≡ 0 → s .at < to → to < length table → (r : Walk) → EnterTold term s n to r → CaseTaken table term s n to r
-      unfolding goTo Told
-      case-in z l u r e = (e .holds, said (r .stands) (e .same ∙ z))
-        where
-          said : (k : ℕ) → k ≡ 0 → Said table term (λ fits. unless (not (partOf n held .entered)) (s .at) (unless (ltb (s .at) to && ltb to (length table)) (s .at) (Goes to (enterPart n held)))) r k
-          said zero y = λ fits. rw (place-entered term s p h n i, o, lt-ltb (s .at) to l, lt-ltb to (length table) u, e .there, e .places)
-          said (suc k) y = absurd (omega arith)
+      pub case-in : s .at < to → to < length table → CaseDecided (Enter n to)
+      unfolding goTo Decided
+      case-in l u = (i, o, λ fits. rw (place-entered term s p h n i, o, lt-ltb (s .at) to l, lt-ltb to (length table) u))

@@ -1,28 +1,31 @@
 -- What a Leaf says of a state, and its bodies written one after the other.
 use mathlib.Core.Path.{_≡_, refl, sym, ap, _∙_}
 use mathlib.Core.Bool.{Bool, true, false}
-use mathlib.Core.List.{List, [], _∷_, _++_}
+use mathlib.Core.List.{List, [], _∷_, _++_, append-assoc}
 use mathlib.Core.Option.{Option, none, some}
 use Prim.Native.Nat.{ℕ, suc, _+_, _-_, _≤_, _<_}
 use native.Mathlib.Omega.{arith}
 use lib.Dec.{ltb}
-use lib.ListN.{length, getD, take, drop, set, replicate, length-drop, length-append}
+use lib.ListN.{length, getD, take, drop, set, replicate, length-drop, length-append, length-replicate, replicate-append-replicate}
+use lib.Seq.{drop-append-seam, length-take-le}
 use borrow.Author.Tests.{ltb-true, ltb-false, lt-ltb, le-ltb, le-leb, lt-leb}
 use Rattle.term.specs.declared.renumber.Passed.{Passed}
 use Rattle.term.specs.declared.renumber.Passed.the-variants as step
 use Rattle.term.specs.declared.part.Written.{Written}
 use Rattle.term.specs.declared.part.Written.the-variants.{Words}
 use Rattle.term.specs.Row.{Row, words}
-use Rattle.term.specs.Part.{isSome, bodyOf, written, bodyAnswer, bodyWords}
-use Rattle.term.proofs.Laws.{never, body-of, body-keeps, answer-fits, body-answer, body-words, padded-fits, written-fits}
+use Rattle.term.specs.Part.{partEnd, isSome, bodyOf, written, bodyAnswer, bodyWords}
+use Rattle.term.proofs.Laws.{never, part-ends, body-of, body-keeps, answer-fits, body-answer, body-words, padded-fits, written-fits}
+use Rattle.fit.specs.Match.{bodyList}
 use Rattle.fit.proofs.Laws.{SoMany, many-start, many-short, many-done, many-more}
 use Rattle.tree.specs.Tree.{LeafVariable, countsOf}
 use Rattle.tree.specs.Find.{PartAt, bodyOr, leafBody}
 use Rattle.tree.proofs.Laws.{leaf-first, leaf-later}
 use Rattle.walk.specs.Walk.{DamagedAt, Next, Ends, unless, RuleFits, variablesIn, soundVariables, leafWith, leafNode}
 use Rattle.walk.specs.declared.state.Walk.{Walk}
-use Rattle.walk.specs.told.State.{stoppedAs, placesOf, Parted, Holds, soundLeaf, variablesOr, leafVariables, LeafSound, LeafTold, PartWritten, LeafWritten}
-use Rattle.walk.proofs.Tells.{told-damaged, told-rule}
+use Rattle.walk.specs.declared.decide.Decision.the-variants.{Stop}
+use Rattle.walk.specs.told.State.{placesOf, Parted, Holds, soundLeaf, variablesOr, leafVariables, LeafSound, LeafDecided, PartWritten, LeafWritten}
+use Rattle.walk.proofs.Tells.{decided-damaged, decided-rule}
 use Rattle.walk.proofs.Uncovered.{place-body}
 use Rattle.walk.proofs.Judged.{two-words}
 use Rattle.walk.proofs.Variables.{FirstRead, first-read}
@@ -56,44 +59,43 @@ module _ (fits : ℕ → List ℕ → Bool) (at : ℕ) (ps : List PartAt) where
   with-sound rule n none e = never (cc)
   with-sound rule n (some vs) e = rw e
 
-module _ (table term : List ℕ) (s : Walk) (h : Holds term s) where
+module _ (table term : List ℕ) (s : Walk) where
   abbrev nexts : (ℕ → List ℕ → Bool) → Next
   nexts fits = leafNode fits (s .at) (placesOf term s) (drop (s .at + 1) table)
 
-  leaf-ends : (r : Walk) → r ≡ stoppedAs s 3 → ((fits : ℕ → List ℕ → Bool) → nexts fits ≡ Ends (DamagedAt (s .at))) → LeafTold table term s r
-  leaf-ends r e d = rw e (told-damaged table term nexts s h d)
+  leaf-ends : ((fits : ℕ → List ℕ → Bool) → nexts fits ≡ Ends (DamagedAt (s .at))) → LeafDecided table term s (Stop 3)
+  leaf-ends e = decided-damaged table term nexts s e
 
-  pub leaf-node-cut : s .at < length table → length table - s .at < 3 → (r : Walk) → r ≡ stoppedAs s 3 → LeafTold table term s r
-  leaf-node-cut i l r e = leaf-ends r e (λ fits. leaf-short fits (s .at) (placesOf term s) (drop (s .at + 1) table) (rw (length-drop (s .at + 1) table) (omega arith)))
+  pub leaf-node-cut : s .at < length table → length table - s .at < 3 → LeafDecided table term s (Stop 3)
+  leaf-node-cut i l = leaf-ends (λ fits. leaf-short fits (s .at) (placesOf term s) (drop (s .at + 1) table) (rw (length-drop (s .at + 1) table) (omega arith)))
 
   module _ (long : s .at + 3 ≤ length table) where
-    pub leaf-rule-high : 64 ≤ getD table (s .at + 1) 0 → (r : Walk) → r ≡ stoppedAs s 3 → LeafTold table term s r
-    leaf-rule-high l r e =
-        leaf-ends r e (λ fits. rw (two-words table (s .at) long) (leaf-high fits (s .at) (placesOf term s) (getD table (s .at + 1) 0) (getD table (s .at + 2) 0) (drop (s .at + 3) table) l))
+    pub leaf-rule-high : 64 ≤ getD table (s .at + 1) 0 → LeafDecided table term s (Stop 3)
+    leaf-rule-high l =
+        leaf-ends (λ fits. rw (two-words table (s .at) long) (leaf-high fits (s .at) (placesOf term s) (getD table (s .at + 1) 0) (getD table (s .at + 2) 0) (drop (s .at + 3) table) l))
 
     module _ (low : getD table (s .at + 1) 0 < 64) where
-      pub leaf-vars-many : 16 < getD table (s .at + 2) 0 → (r : Walk) → r ≡ stoppedAs s 3 → LeafTold table term s r
-      leaf-vars-many l r e =
-          leaf-ends r e (λ fits. rw (two-words table (s .at) long) (leaf-many fits (s .at) (placesOf term s) (getD table (s .at + 1) 0) (getD table (s .at + 2) 0) (drop (s .at + 3) table) low l))
+      pub leaf-vars-many : 16 < getD table (s .at + 2) 0 → LeafDecided table term s (Stop 3)
+      leaf-vars-many l =
+          leaf-ends (λ fits. rw (two-words table (s .at) long) (leaf-many fits (s .at) (placesOf term s) (getD table (s .at + 1) 0) (getD table (s .at + 2) 0) (drop (s .at + 3) table) low l))
 
       module _ (few : getD table (s .at + 2) 0 ≤ 16) where
         leaf-next-is : (fits : ℕ → List ℕ → Bool) → nexts fits ≡ leafWith fits (s .at) (placesOf term s) (getD table (s .at + 1) 0) (getD table (s .at + 2) 0) (variablesIn (getD table (s .at + 2) 0) (drop (s .at + 3) table))
         leaf-next-is fits =
             rw (two-words table (s .at) long) (leaf-is fits (s .at) (placesOf term s) (getD table (s .at + 1) 0) (getD table (s .at + 2) 0) (drop (s .at + 3) table) low few)
 
-        pub leaf-unsound : false ≡ soundLeaf (placesOf term s) (variablesIn (getD table (s .at + 2) 0) (drop (s .at + 3) table)) → (r : Walk) → r ≡ stoppedAs s 3 → LeafTold table term s r
-        leaf-unsound u r e =
-            leaf-ends r e
+        pub leaf-unsound : false ≡ soundLeaf (placesOf term s) (variablesIn (getD table (s .at + 2) 0) (drop (s .at + 3) table)) → LeafDecided table term s (Stop 3)
+        leaf-unsound u =
+            leaf-ends
             (λ fits. leaf-next-is fits ∙ with-unsound fits (s .at) (placesOf term s) (getD table (s .at + 1) 0) (getD table (s .at + 2) 0) (variablesIn (getD table (s .at + 2) 0) (drop (s .at + 3) table)) (sym u))
 
-        pub leaf-found : true ≡ soundLeaf (placesOf term s) (variablesIn (getD table (s .at + 2) 0) (drop (s .at + 3) table)) → (r : Walk) → r ≡ stoppedAs s 2 → LeafTold table term s r
-        leaf-found u r e =
-            rw e
-            (told-rule table term nexts s h
+        pub leaf-found : true ≡ soundLeaf (placesOf term s) (variablesIn (getD table (s .at + 2) 0) (drop (s .at + 3) table)) → LeafDecided table term s (Stop 2)
+        leaf-found u =
+            decided-rule table term nexts s
             (record {
               leaf = record { inside = long; few = few; sound = sym u };
               ends = λ fits. leaf-next-is fits ∙ with-sound fits (s .at) (placesOf term s) (getD table (s .at + 1) 0) (getD table (s .at + 2) 0) (variablesIn (getD table (s .at + 2) 0) (drop (s .at + 3) table)) (sym u);
-            }))
+            })
 
 -- ---- one body
 short-written : (room : ℕ) (ws : List ℕ) (r : Written) → r ≡ written room ws → ((n : ℕ) → r ≡ Words n → ⊥) → room < length ws
@@ -113,7 +115,7 @@ module _ (d : ℕ) (ys ws out done : List ℕ) where
   unfolding PartWritten
   written-bounds n u = (u .3, u .4)
 
-  pub part-written : (n : ℕ) → Words n ≡ bodyAnswer (length out) (bodyOf d ys ws) → done ≡ bodyWords (length out) (bodyOf d ys ws) → PartWritten d ys ws out done (step.Done n)
+  part-written : (n : ℕ) → Words n ≡ bodyAnswer (length out) (bodyOf d ys ws) → done ≡ bodyWords (length out) (bodyOf d ys ws) → PartWritten d ys ws out done (step.Done n)
   unfolding PartWritten
   part-written n e w = shown (answer-fits (length out) (bodyOf d ys ws) n (sym e))
     where
@@ -128,9 +130,60 @@ module _ (d : ℕ) (ys ws out done : List ℕ) where
         w ∙ ap (bodyWords (length out)) (a .1) ∙ body-words (length out) (a .0) ∙ padded-fits (length out) (words (a .0)) (a .3) ∙ ap (λ (m : ℕ). words (a .0) ++ replicate (length out - m) 0) (sym (a .2)),
       )
 
-  pub part-short : (r : Written) → r ≡ bodyAnswer (length out) (bodyOf d ys ws) → ((n : ℕ) → r ≡ Words n → ⊥) → PartWritten d ys ws out done step.Stuck
+-- ---- a body has as many words as its part: so many of a cleared slice are lent, and the zeros after them stay
+body-ends : (d : ℕ) (ys ws : List ℕ) (b : Row) → bodyOf d ys ws ≡ some b → length (words b) ≡ partEnd ws
+body-ends d ys ws b e =
+    let i = body-of d ys ws b e in
+    body-keeps d ys (i .tree) b (i .body) .long ∙ sym (part-ends 64 ws (i .tree) (i .after) (i .stands))
+
+zeros-after : (out : List ℕ) (end : ℕ) → end ≤ length out → out ≡ replicate (length out) 0 → drop end out ≡ replicate (length out - end) 0
+zeros-after out end l z =
+    let zeros : ℕ → List ℕ = λ n. replicate n 0 in
+    let k : length out ≡ end + (length out - end) = omega arith in
+    ap (drop end) (z ∙ ap zeros k ∙ sym (replicate-append-replicate {A = ℕ} end (length out - end) 0))
+    ∙ ap (λ (n : ℕ). drop n (zeros end ++ zeros (length out - end))) (sym (length-replicate {A = ℕ} end 0))
+    ∙ drop-append-seam (zeros end) (zeros (length out - end))
+
+module _ (d : ℕ) (ys ws out : List ℕ) (end : ℕ) (ends : end ≡ partEnd ws) where
+  pub part-none : length out < end → (done : List ℕ) → PartWritten d ys ws out done step.Stuck
   unfolding PartWritten
-  part-short r e n b i = short-written (length out) (words b) r (e ∙ ap (bodyAnswer (length out)) i ∙ body-answer (length out) b) n
+  part-none l done b i = omega (arith, ends, l, body-ends d ys ws b i)
+
+  module _ (l : end ≤ length out) where
+    abbrev lent : List ℕ
+    lent = take end out
+
+    long : length lent ≡ end
+    long = length-take-le end out l
+
+    pub part-lent-short : (r : Written) → r ≡ bodyAnswer (length lent) (bodyOf d ys ws) → ((n : ℕ) → r ≡ Words n → ⊥) → (done : List ℕ) → PartWritten d ys ws out done step.Stuck
+    unfolding PartWritten
+    part-lent-short r e n done b i =
+        let s = short-written (length lent) (words b) r (e ∙ ap (bodyAnswer (length lent)) i ∙ body-answer (length lent) b) n in
+        absurd (omega (arith, s, long, ends, body-ends d ys ws b i))
+
+    pub part-lent : out ≡ replicate (length out) 0 → (front : List ℕ) (n : ℕ) → Words n ≡ bodyAnswer (length lent) (bodyOf d ys ws) → front ≡ bodyWords (length lent) (bodyOf d ys ws)
+        → PartWritten d ys ws out (front ++ drop end out) (step.Done n)
+    unfolding PartWritten
+    part-lent z front n e w = shown (part-written d ys ws lent front n e w)
+      where
+        shown : PartWritten d ys ws lent front (step.Done n)
+            → (b : Row) × (bodyOf d ys ws ≡ some b) × (n ≡ length (words b)) × (n ≤ length out) × (n ≤ length ws) × (front ++ drop end out ≡ words b ++ replicate (length out - n) 0)
+        shown a = (
+          a .0,
+          a .1,
+          a .2,
+          omega (arith, a .3, long, l),
+          a .4,
+          rest (a .0) (a .3) (a .5),
+        )
+          where
+            rest : (b : Row) → n ≤ length lent → front ≡ words b ++ replicate (length lent - n) 0 → front ++ drop end out ≡ words b ++ replicate (length out - n) 0
+            rest b f q =
+                let k : length lent - n + (length out - end) ≡ length out - n = omega (arith, f, long, l) in
+                ap (λ (x : List ℕ). x ++ drop end out) q
+                ∙ append-assoc (words b) (replicate (length lent - n) 0) (drop end out)
+                ∙ ap (λ (x : List ℕ). words b ++ x) (ap (λ (x : List ℕ). replicate (length lent - n) 0 ++ x) (zeros-after out end l z) ∙ replicate-append-replicate {A = ℕ} (length lent - n) (length out - end) 0 ∙ ap (λ (m : ℕ). replicate m 0) k)
 
 -- the lists and the words, as they are lent
 pub part-at : (d : ℕ) (ys zs ws vs out done : List ℕ) (r q : Passed) → ys ≡ zs → ws ≡ vs → r ≡ q → PartWritten d ys ws out done r → PartWritten d zs vs out done q
@@ -203,6 +256,14 @@ module _ (table term : List ℕ) (s : Walk) (p : Parted term) (h : Holds term s)
 
       has-one : (f : FirstRead table term s at (vars - x) (w .rest)) → (b : Row) × (bodyOf depth list part ≡ some b)
       has-one f = some-body (bodyOf depth list part) (sym (ap isSome (place-body term s p h place (f .here) list (f .good))) ∙ f .has)
+
+      -- what is left of the room is still cleared
+      pub writing-zeros : (out : List ℕ) → out ≡ drop to bodies → out ≡ replicate (length out) 0
+      writing-zeros out o =
+          let q : drop to bodies ≡ replicate (room - to) 0 =
+          ap (drop to) (w .many .written) ∙ ap (λ (n : ℕ). drop n (bodyList body 0 x ++ replicate (room - to) 0)) (w .many .there) ∙ drop-append-seam (bodyList body 0 x) (replicate (room - to) 0) in
+          let k : length out ≡ room - to = ap length (o ∙ q) ∙ length-replicate {A = ℕ} (room - to) 0 in
+          o ∙ q ∙ ap (λ (n : ℕ). replicate n 0) (sym k)
 
       pub writing-short : (out done : List ℕ) → length out ≡ room - to → PartWritten depth list part out done step.Stuck
           → (cleared zeros : List ℕ) → cleared ≡ replicate room 0 → zeros ≡ replicate 16 0 → LeafWritten table term s room cleared zeros false

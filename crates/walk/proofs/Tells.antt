@@ -1,69 +1,101 @@
--- What is told of a node: the same of what is the same, and of a walk that ends where it is.
+-- What is decided of a node: the same of what is the same; and what is told of the state once it was handed on as decided.
 use mathlib.Core.Path.{_≡_, _∙_}
-use mathlib.Core.Bool.{Bool, _&&_}
+use mathlib.Core.Bool.{Bool, false}
 use mathlib.Core.List.{List}
 use Prim.Native.Nat.{ℕ, zero, suc, _≤_, _<_}
 use native.Mathlib.Omega.{arith}
-use lib.Dec.{ltb}
-use lib.ListN.{length}
+use lib.ListN.{length, getD}
 use borrow.Author.Tests.{lt-ltb, le-ltb}
-use Rattle.walk.specs.Walk.{NoneFits, DamagedAt, Next, Ends, Goes, unless, goTo}
+use Rattle.tree.specs.Find.{enterPart}
+use Rattle.walk.specs.Walk.{NoneFits, DamagedAt, Next, Ends, Goes, goTo}
 use Rattle.walk.specs.declared.state.Walk.{Walk}
-use Rattle.walk.specs.told.State.{stoppedAs, placesOf, Holds, LeafAt, Said, Told, GoTold}
+use Rattle.walk.specs.declared.decide.Decision.{Decision}
+use Rattle.walk.specs.declared.decide.Decision.the-variants.{Enter, Go, Stop}
+use Rattle.walk.specs.told.State.{stoppedAs, movedTo, seen, placesOf, Holds, LeafAt, Said, Told, EnterTold, Decided}
 
-pub told-same : (table term : List ℕ) (next other : (ℕ → List ℕ → Bool) → Next) (r : Walk) → ((fits : ℕ → List ℕ → Bool) → next fits ≡ other fits)
-    → Told table term other r → Told table term next r
-unfolding Told
-told-same table term next other r e t = (t .0, go (r .stands) (t .1))
-  where
-    go : (n : ℕ) → Said table term other r n → Said table term next r n
-    go zero s = λ fits. e fits ∙ s fits
-    go (suc zero) s = λ fits. e fits ∙ s fits
-    go (suc (suc zero)) s = record { leaf = s .leaf; ends = λ fits. e fits ∙ s .ends fits }
-    go (suc (suc (suc n))) s = λ fits. e fits ∙ s fits
+pub decided-same : (table term : List ℕ) (next other : (ℕ → List ℕ → Bool) → Next) (s : Walk) (d : Decision) → ((fits : ℕ → List ℕ → Bool) → next fits ≡ other fits)
+    → Decided table term other s d → Decided table term next s d
+unfolding Decided
+decided-same table term next other s (Enter n to) e t = (t .0, t .1, λ fits. e fits ∙ t .2 fits)
+decided-same table term next other s (Go to) e t = λ fits. e fits ∙ t fits
+decided-same table term next other s (Stop zero) e t = λ fits. e fits ∙ t fits
+decided-same table term next other s (Stop (suc zero)) e t = λ fits. e fits ∙ t fits
+decided-same table term next other s (Stop (suc (suc zero))) e t = record { leaf = t .leaf; ends = λ fits. e fits ∙ t .ends fits }
+decided-same table term next other s (Stop (suc (suc (suc n)))) e t = λ fits. e fits ∙ t fits
 
--- the same places are held
-pub holds-stopped : (term : List ℕ) (s : Walk) (n : ℕ) → Holds term s → Holds term (stoppedAs s n)
-holds-stopped term s n h =
-    record { offsets-long = h .offsets-long; depths-long = h .depths-long; entered-long = h .entered-long; within = h .within; low = h .low; few = h .few; room = h .room }
+module _ (table term : List ℕ) (next : (ℕ → List ℕ → Bool) → Next) (s : Walk) where
+  pub decided-damaged : ((fits : ℕ → List ℕ → Bool) → next fits ≡ Ends (DamagedAt (s .at))) → Decided table term next s (Stop 3)
+  unfolding Decided
+  decided-damaged e = e
 
-module _ (table term : List ℕ) (next : (ℕ → List ℕ → Bool) → Next) (s : Walk) (h : Holds term s) where
-  pub told-damaged : ((fits : ℕ → List ℕ → Bool) → next fits ≡ Ends (DamagedAt (s .at))) → Told table term next (stoppedAs s 3)
-  unfolding Told
-  told-damaged e = (holds-stopped term s 3 h, e)
+  pub decided-no-rule : ((fits : ℕ → List ℕ → Bool) → next fits ≡ Ends NoneFits) → Decided table term next s (Stop 1)
+  unfolding Decided
+  decided-no-rule e = e
 
-  pub told-no-rule : ((fits : ℕ → List ℕ → Bool) → next fits ≡ Ends NoneFits) → Told table term next (stoppedAs s 1)
-  unfolding Told
-  told-no-rule e = (holds-stopped term s 1 h, e)
-
-  pub told-rule : LeafAt table term next s → Told table term next (stoppedAs s 2)
-  unfolding Told
-  told-rule l = (
-    holds-stopped term s 2 h,
-    record { leaf = record { inside = l .leaf .inside; few = l .leaf .few; sound = l .leaf .sound }; ends = l .ends },
-  )
+  pub decided-rule : LeafAt table term next s → Decided table term next s (Stop 2)
+  unfolding Decided
+  decided-rule l = l
 
 -- ---- an address
-pub go-back : (table : List ℕ) (s r : Walk) (to : ℕ) → to ≤ s .at → r ≡ stoppedAs s 3 → GoTold table s to r
-unfolding goTo
-go-back table s r to l e term h =
-    rw e (told-damaged table term (λ fits. goTo table (s .at) to (placesOf term s)) s h (λ fits. rw (le-ltb (s .at) to l)))
+module _ (table term : List ℕ) (s : Walk) (to : ℕ) where
+  pub go-back : to ≤ s .at → Decided table term (λ fits. goTo table (s .at) to (placesOf term s)) s (Stop 3)
+  unfolding goTo
+  go-back l = decided-damaged table term (λ fits. goTo table (s .at) to (placesOf term s)) s (λ fits. rw (le-ltb (s .at) to l))
 
-pub go-out : (table : List ℕ) (s r : Walk) (to : ℕ) → s .at < to → length table ≤ to → r ≡ stoppedAs s 3 → GoTold table s to r
-unfolding goTo
-go-out table s r to l o e term h =
-    rw e (told-damaged table term (λ fits. goTo table (s .at) to (placesOf term s)) s h (λ fits. rw (lt-ltb (s .at) to l, le-ltb to (length table) o)))
+  pub go-out : s .at < to → length table ≤ to → Decided table term (λ fits. goTo table (s .at) to (placesOf term s)) s (Stop 3)
+  unfolding goTo
+  go-out l o = decided-damaged table term (λ fits. goTo table (s .at) to (placesOf term s)) s (λ fits. rw (lt-ltb (s .at) to l, le-ltb to (length table) o))
 
-abbrev pub movedTo : Walk → ℕ → Walk
-movedTo s to = record { offsets = s .offsets; depths = s .depths; entered = s .entered; count = s .count; at = to; stands = s .stands }
+  pub go-in : s .at < to → to < length table → Decided table term (λ fits. goTo table (s .at) to (placesOf term s)) s (Go to)
+  unfolding goTo Decided
+  go-in l i = λ fits. rw (lt-ltb (s .at) to l, lt-ltb to (length table) i)
 
-pub go-on : (table : List ℕ) (s : Walk) (to : ℕ) → s .stands ≡ 0 → s .at < to → to < length table → GoTold table s to (movedTo s to)
-unfolding goTo Told
-go-on table s to z l i term h = (
-  record { offsets-long = h .offsets-long; depths-long = h .depths-long; entered-long = h .entered-long; within = h .within; low = h .low; few = h .few; room = h .room },
-  said (s .stands) z,
-)
-  where
-    said : (n : ℕ) → n ≡ 0 → Said table term (λ fits. unless (ltb (s .at) to && ltb to (length table)) (s .at) (Goes to (placesOf term s))) (movedTo s to) n
-    said zero e = λ fits. rw (lt-ltb (s .at) to l, lt-ltb to (length table) i)
-    said (suc n) e = absurd (omega arith)
+-- ---- the state that lends its fields, and the state that is handed on
+pub holds-seen : (term : List ℕ) (s : Walk) (at : ℕ) → Holds term s → Holds term (seen (s .offsets) (s .depths) (s .entered) (s .count) at)
+holds-seen term s at h =
+    record { offsets-long = h .offsets-long; depths-long = h .depths-long; entered-long = h .entered-long; within = h .within; low = h .low; few = h .few; room = h .room }
+
+abbrev lends : Walk → Walk
+lends s = seen (s .offsets) (s .depths) (s .entered) (s .count) (s .at)
+
+module _ (table term : List ℕ) (next : (ℕ → List ℕ → Bool) → Next) (s : Walk) (h : Holds term s) (d : Decision) (decided : Decided table term next (lends s) d) where
+  pub told-stop : (n : ℕ) → d ≡ Stop n → (r : Walk) → r ≡ stoppedAs s n → Told table term next r
+  unfolding Told Decided
+  told-stop n e r q = rw q (held, said n (rw e at decided))
+    where
+      held : Holds term (stoppedAs s n)
+      held = record { offsets-long = h .offsets-long; depths-long = h .depths-long; entered-long = h .entered-long; within = h .within; low = h .low; few = h .few; room = h .room }
+
+      said : (k : ℕ) → Said table term next (lends s) k → Said table term next (stoppedAs s n) k
+      said zero t = t
+      said (suc zero) t = t
+      said (suc (suc zero)) t = record { leaf = record { inside = t .leaf .inside; few = t .leaf .few; sound = t .leaf .sound }; ends = t .ends }
+      said (suc (suc (suc k))) t = t
+
+  module _ (going : s .stands ≡ 0) where
+    pub told-go : (to : ℕ) → d ≡ Go to → (r : Walk) → r ≡ movedTo s to → Told table term next r
+    unfolding Told Decided
+    told-go to e r q = rw q (held, said (s .stands) going (rw e at decided))
+      where
+        held : Holds term (movedTo s to)
+        held = record { offsets-long = h .offsets-long; depths-long = h .depths-long; entered-long = h .entered-long; within = h .within; low = h .low; few = h .few; room = h .room }
+
+        said : (k : ℕ) → k ≡ 0 → ((fits : ℕ → List ℕ → Bool) → next fits ≡ Goes to (placesOf term s)) → Said table term next (movedTo s to) k
+        said zero z t = t
+        said (suc k) z t = absurd (omega arith)
+
+    pub told-enter : (n to : ℕ) → d ≡ Enter n to → (r : Walk) → EnterTold term s n to r → Told table term next r
+    unfolding Told Decided
+    told-enter n to e r q = (q .holds, said (r .stands) (q .same ∙ going) (rw e at decided))
+      where
+        said : (k : ℕ) → k ≡ 0 → (n < s .count) × (getD (s .entered) n false ≡ false) × ((fits : ℕ → List ℕ → Bool) → next fits ≡ Goes to (enterPart n (placesOf term s))) → Said table term next r k
+        said zero z t = λ fits. rw (q .there, q .places) (t .2 fits)
+        said (suc k) z t = absurd (omega arith)
+
+  -- the place that is entered is there, and was not entered
+  pub enter-there : (n to : ℕ) → d ≡ Enter n to → (n < s .count) × (getD (s .entered) n false ≡ false)
+  unfolding Decided
+  enter-there n to e = taken (rw e at decided)
+    where
+      taken : (n < s .count) × (getD (s .entered) n false ≡ false) × ((fits : ℕ → List ℕ → Bool) → next fits ≡ Goes to (enterPart n (placesOf term s))) → (n < s .count) × (getD (s .entered) n false ≡ false)
+      taken t = (t .0, t .1)

@@ -15,52 +15,53 @@ use Rattle.tree.specs.Find.{PartAt, rootPart}
 use Rattle.tree.proofs.Laws.{total-root}
 use Rattle.walk.specs.Walk.{Walked, DamagedAt, Ends, unless, leafNode, switchNode, closedNode, sameNode, nodeAt, nextAt, follow, walkFrom}
 use Rattle.walk.specs.declared.state.Walk.{Walk}
-use Rattle.walk.specs.told.State.{stoppedAs, entryAt, partFrom, placeIn, placesFrom, placesOf, Parted, Holds, leafVariables, leafRule, Said, Told, SwitchTold, ClosedTold, SameTold, LeafTold, StepTold, Stood, Standing, WalkTold}
+use Rattle.walk.specs.declared.decide.Decision.{Decision}
+use Rattle.walk.specs.declared.decide.Decision.the-variants.{Stop}
+use Rattle.walk.specs.told.State.{entryAt, partFrom, placeIn, placesFrom, placesOf, Parted, Holds, leafVariables, leafRule, Said, Told, NodeDecided, SwitchDecided, ClosedDecided, SameDecided, LeafDecided, StepTold, Stood, Standing, WalkTold}
 use Rattle.walk.proofs.Steps.{later-next, walk-is}
-use Rattle.walk.proofs.Tells.{told-same, told-damaged, told-no-rule}
+use Rattle.walk.proofs.Tells.{decided-same, decided-damaged, decided-no-rule}
 use Rattle.walk.proofs.Uncovered.{from-stands}
 
 -- ---- one node, by its tag
-module _ (table term : List ℕ) (s : Walk) (h : Holds term s) where
+module _ (table term : List ℕ) (s : Walk) where
   abbrev ps : List PartAt
   ps = placesOf term s
 
-  pub step-past : length table ≤ s .at → (r : Walk) → r ≡ stoppedAs s 3 → StepTold table term s r
+  pub node-past : length table ≤ s .at → NodeDecided table term s (Stop 3)
   unfolding nextAt nodeAt
-  step-past l r e = rw e (told-damaged table term (λ fits. nextAt fits table (s .at) ps) s h (λ fits. rw (drop-of-length-le table {i = s .at} l)))
+  node-past l = decided-damaged table term (λ fits. nextAt fits table (s .at) ps) s (λ fits. rw (drop-of-length-le table {i = s .at} l))
 
   module _ (inside : s .at < length table) where
     node-is : (fits : ℕ → List ℕ → Bool) → nextAt fits table (s .at) ps ≡ nodeAt fits table (s .at) ps (getD table (s .at) 0 ∷ drop (s .at + 1) table)
     unfolding nextAt
     node-is fits = let z : suc (s .at) ≡ s .at + 1 = omega arith in rw (drop-cons table (s .at) 0 inside, z)
 
-    pub step-fail : getD table (s .at) 0 ≡ 0 → (r : Walk) → r ≡ stoppedAs s 1 → StepTold table term s r
+    pub node-fail : getD table (s .at) 0 ≡ 0 → NodeDecided table term s (Stop 1)
     unfolding nodeAt
-    step-fail t r e = rw e (told-no-rule table term (λ fits. nextAt fits table (s .at) ps) s h (λ fits. node-is fits ∙ rw t))
+    node-fail t = decided-no-rule table term (λ fits. nextAt fits table (s .at) ps) s (λ fits. node-is fits ∙ rw t)
 
-    pub step-leaf : getD table (s .at) 0 ≡ 1 → (r : Walk) → LeafTold table term s r → StepTold table term s r
+    pub node-leaf : getD table (s .at) 0 ≡ 1 → (d : Decision) → LeafDecided table term s d → NodeDecided table term s d
     unfolding nodeAt
-    step-leaf t r e = told-same table term _ (λ fits. leafNode fits (s .at) ps (drop (s .at + 1) table)) r (λ fits. node-is fits ∙ rw t) e
+    node-leaf t d e = decided-same table term _ (λ fits. leafNode fits (s .at) ps (drop (s .at + 1) table)) s d (λ fits. node-is fits ∙ rw t) e
 
-    pub step-switch : getD table (s .at) 0 ≡ 2 → (r : Walk) → SwitchTold table term s r → StepTold table term s r
+    pub node-switch : getD table (s .at) 0 ≡ 2 → (d : Decision) → SwitchDecided table term s d → NodeDecided table term s d
     unfolding nodeAt
-    step-switch t r e = told-same table term _ (λ fits. switchNode table (s .at) ps (drop (s .at + 1) table)) r (λ fits. node-is fits ∙ rw t) e
+    node-switch t d e = decided-same table term _ (λ fits. switchNode table (s .at) ps (drop (s .at + 1) table)) s d (λ fits. node-is fits ∙ rw t) e
 
-    pub step-closed : getD table (s .at) 0 ≡ 3 → (r : Walk) → ClosedTold table term s r → StepTold table term s r
+    pub node-closed : getD table (s .at) 0 ≡ 3 → (d : Decision) → ClosedDecided table term s d → NodeDecided table term s d
     unfolding nodeAt
-    step-closed t r e = told-same table term _ (λ fits. closedNode table (s .at) ps (drop (s .at + 1) table)) r (λ fits. node-is fits ∙ rw t) e
+    node-closed t d e = decided-same table term _ (λ fits. closedNode table (s .at) ps (drop (s .at + 1) table)) s d (λ fits. node-is fits ∙ rw t) e
 
-    pub step-same : getD table (s .at) 0 ≡ 4 → (r : Walk) → SameTold table term s r → StepTold table term s r
+    pub node-same : getD table (s .at) 0 ≡ 4 → (d : Decision) → SameDecided table term s d → NodeDecided table term s d
     unfolding nodeAt
-    step-same t r e = told-same table term _ (λ fits. sameNode table (s .at) ps (drop (s .at + 1) table)) r (λ fits. node-is fits ∙ rw t) e
+    node-same t d e = decided-same table term _ (λ fits. sameNode table (s .at) ps (drop (s .at + 1) table)) s d (λ fits. node-is fits ∙ rw t) e
 
-    pub step-other : (getD table (s .at) 0 ≡ 0 → ⊥) → (getD table (s .at) 0 ≡ 1 → ⊥) → (getD table (s .at) 0 ≡ 2 → ⊥) → (getD table (s .at) 0 ≡ 3 → ⊥) → (getD table (s .at) 0 ≡ 4 → ⊥)
-        → (r : Walk) → r ≡ stoppedAs s 3 → StepTold table term s r
+    pub node-other : (getD table (s .at) 0 ≡ 0 → ⊥) → (getD table (s .at) 0 ≡ 1 → ⊥) → (getD table (s .at) 0 ≡ 2 → ⊥) → (getD table (s .at) 0 ≡ 3 → ⊥) → (getD table (s .at) 0 ≡ 4 → ⊥)
+        → NodeDecided table term s (Stop 3)
     unfolding nodeAt
-    step-other a b c d e r q =
-        rw q
-        (told-damaged table term (λ fits. nextAt fits table (s .at) ps) s h
-        (λ fits. node-is fits ∙ rw (ne-eqb (getD table (s .at) 0) 0 a, ne-eqb (getD table (s .at) 0) 1 b, ne-eqb (getD table (s .at) 0) 2 c, ne-eqb (getD table (s .at) 0) 3 d, ne-eqb (getD table (s .at) 0) 4 e)))
+    node-other a b c d e =
+        decided-damaged table term (λ fits. nextAt fits table (s .at) ps) s
+        (λ fits. node-is fits ∙ rw (ne-eqb (getD table (s .at) 0) 0 a, ne-eqb (getD table (s .at) 0) 1 b, ne-eqb (getD table (s .at) 0) 2 c, ne-eqb (getD table (s .at) 0) 3 d, ne-eqb (getD table (s .at) 0) 4 e))
 
 -- ---- the loop
 abbrev pub left : List ℕ → Walk → ℕ

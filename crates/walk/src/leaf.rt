@@ -1,9 +1,10 @@
 // A Leaf: rule, n, then for each variable the place, k, the list.
 ghost use mathlib.Core.Path.{_≡_};
 ghost use Prim.Native.Nat.{_≤_};
-ghost use lib.ListN.{length, drop, replicate};
-ghost use Rattle.walk.specs.Walk.{variablesIn};
-ghost use Rattle.walk.specs.told.State.{placesOf, Parted, Holds, soundLeaf, LeafSound, PartWritten, LeafWritten};
+ghost use mathlib.Core.Bool.{Bool};
+ghost use mathlib.Core.List.{List};
+ghost use lib.ListN.{length, replicate};
+ghost use Rattle.walk.specs.told.State.{seen, Parted, Holds, SoundTold, LeafSound, PartWritten, LeafWritten};
 use crate::state::NODE_WORDS;
 use crate::state::SECOND;
 use crate::state::Walk;
@@ -11,6 +12,7 @@ use term::lent::clear;
 use term::list::MOST_IDS;
 use term::part::Written;
 use term::part::is_closed;
+use term::part::part_end;
 use term::part::write_body;
 use term::renumber::Passed;
 
@@ -21,9 +23,17 @@ pub const K_AT: usize = 1;
 pub const VARIABLE_WORDS: usize = 2;
 
 // Whether the variables from an address on are sound: each place is uncovered, each list is one for it, and each part has a body.
-pub fn sound_leaf(walk: Walk, tree: &[u32], term: &[u32], from: usize, n: u32) -> bool
-    requires { ⌜ Parted (now term) × Holds (now term) walk × (from ≤ length (now tree)) ⌝ }
-    ensures { λ r. ⌜ r ≡ soundLeaf (placesOf (now (term .entry)) walk) (variablesIn n (drop from (now (tree .entry)))) ⌝ }
+pub fn sound_leaf(
+    tree: &[u32],
+    term: &[u32],
+    offsets: &[u16],
+    depths: &[u8],
+    count: usize,
+    from: usize,
+    n: u32,
+) -> bool
+    requires { ⌜ Parted (now term) × ((entered : List Bool) × Holds (now term) (seen (now offsets) (now depths) entered count from)) × (from ≤ length (now tree)) ⌝ }
+    ensures { λ r. ⌜ SoundTold (now (tree .entry)) (now (term .entry)) (now (offsets .entry)) (now (depths .entry)) count from n r ⌝ }
 {
     let mut at = from;
     let mut more = n;
@@ -40,12 +50,12 @@ pub fn sound_leaf(walk: Walk, tree: &[u32], term: &[u32], from: usize, n: u32) -
         if MOST_IDS < k {
             return false;
         }
-        if walk.count <= place {
+        if count <= place {
             return false;
         }
         let end = list + k;
-        let offset = walk.offsets[place] as usize;
-        if !is_closed(&term[offset..], walk.depths[place] as u32, &tree[list..end]) {
+        let offset = offsets[place] as usize;
+        if !is_closed(&term[offset..], depths[place] as u32, &tree[list..end]) {
             return false;
         }
         at = end;
@@ -54,11 +64,16 @@ pub fn sound_leaf(walk: Walk, tree: &[u32], term: &[u32], from: usize, n: u32) -
     true
 }
 
-// Writes the body of the part that the words begin with.
+// Writes the body of the part that the words begin with into a cleared slice. A body has as many words as its part, so no more are lent.
 fn write_part(words: &[u32], d: u32, list: &[u32], out: &mut [u32]) -> Passed
+    requires { ⌜ now out ≡ replicate (length (now out)) 0 ⌝ }
     ensures { λ r. ⌜ PartWritten d (now (list .entry)) (now (words .entry)) (now (out .entry)) (now (out .exit)) r ⌝ }
 {
-    match write_body(words, d, list, out) {
+    let long = part_end(words);
+    if out.len() < long {
+        return Passed::Stuck;
+    }
+    match write_body(words, d, list, &mut out[..long]) {
         Written::Words(n) => Passed::Done(n),
         Written::NoBody => Passed::Stuck,
         Written::Short => Passed::Stuck,

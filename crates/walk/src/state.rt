@@ -3,23 +3,12 @@ ghost use mathlib.Core.Path.{_≡_};
 ghost use Prim.Native.Nat.{_<_};
 ghost use mathlib.Core.Bool.{false};
 ghost use lib.ListN.{length, getD};
-ghost use Rattle.walk.specs.told.State.{stoppedAs, entryAt, Parted, Holds, GoTold, EnterTold, CaseTaken, SwitchTold, ClosedTold, SameTold, LeafTold, StepTold, WalkTold};
-use crate::leaf::sound_leaf;
-use crate::taken::CASE_WORDS;
-use crate::taken::Taken;
-use crate::taken::closed_taken;
-use crate::taken::find_case;
-use crate::taken::same_taken;
-use book::limits::MOST_RULES;
-use book::limits::MOST_VARS;
+ghost use Rattle.walk.specs.told.State.{stoppedAs, movedTo, entryAt, Parted, Holds, EnterTold, StepTold, WalkTold};
+use crate::decide::Decision;
+use crate::decide::decide;
 use term::part::part_end;
 use term::renumber::inside_word;
 use term::word::count_of;
-use tree::node::CLOSED;
-use tree::node::FAIL;
-use tree::node::LEAF;
-use tree::node::SAME;
-use tree::node::SWITCH;
 
 // Each uncovered place is another part of the term.
 pub const PLACES: usize = 4096;
@@ -38,12 +27,8 @@ pub const FIRST: usize = 1;
 
 pub const SECOND: usize = 2;
 
-const THIRD: usize = 3;
-
-// A Leaf, Switch or Closed has so many words before its variables, cases or list, and a Same before its lists.
+// A Leaf, Switch or Closed has so many words before its variables, cases or list.
 pub const NODE_WORDS: usize = 3;
-
-const SAME_WORDS: usize = 4;
 
 // For each uncovered place the offset of its part in the term, the abstractions passed, and whether it was entered.
 pub struct Walk {
@@ -78,20 +63,11 @@ impl Walk {
         self
     }
 
-    // The walk goes on at an address that is later and inside.
-    pub fn go(mut self, tree: &[u32], to: u32) -> Walk
-        requires { ⌜ self .stands ≡ 0 ⌝ }
-        ensures { λ r. ⌜ GoTold (now (tree .entry)) self to r ⌝ }
+    // What a node tests sends the walk on to an address, and uncovers nothing.
+    pub fn test(mut self, to: usize) -> Walk
+        ensures { λ r. ⌜ r ≡ movedTo self to ⌝ }
     {
-        let at = self.at;
-        let next = to as usize;
-        if next <= at {
-            return self.stop(DAMAGED);
-        }
-        if tree.len() <= next {
-            return self.stop(DAMAGED);
-        }
-        self.at = next;
+        self.at = to;
         self
     }
 
@@ -120,156 +96,27 @@ impl Walk {
         self
     }
 
-    // A case is taken: its place is entered once, and the address is later and inside.
-    pub fn take_case(self, tree: &[u32], term: &[u32], n: usize, to: u32) -> Walk
-        requires { ⌜ Parted (now term) × Holds (now term) self × (n < self .count) × (self .stands ≡ 0) ⌝ }
-        ensures { λ r. ⌜ CaseTaken (now (tree .entry)) (now (term .entry)) self n to r ⌝ }
-    {
-        if self.entered[n] {
-            return self.stop(DAMAGED);
-        }
-        let at = self.at;
-        let next = to as usize;
-        if next <= at {
-            return self.stop(DAMAGED);
-        }
-        if tree.len() <= next {
-            return self.stop(DAMAGED);
-        }
-        self.enter(term, n, next)
-    }
-
-    // Switch: place, cases, (head word, address) each, default address.
-    pub fn switch(self, tree: &[u32], term: &[u32]) -> Walk
-        requires { ⌜ Parted (now term) × Holds (now term) self × (self .at < length (now tree)) × (self .stands ≡ 0) ⌝ }
-        ensures { λ r. ⌜ SwitchTold (now (tree .entry)) (now (term .entry)) self r ⌝ }
-    {
-        let at = self.at;
-        if tree.len() - at < NODE_WORDS {
-            return self.stop(DAMAGED);
-        }
-        let n = tree[at + FIRST] as usize;
-        let cases = tree[at + SECOND] as usize;
-        if self.count <= n {
-            return self.stop(DAMAGED);
-        }
-        let from = at + NODE_WORDS;
-        if tree.len() - from <= CASE_WORDS * cases {
-            return self.stop(DAMAGED);
-        }
-        let default = from + CASE_WORDS * cases;
-        let offset = self.offsets[n] as usize;
-        match find_case(tree, from, cases, term[offset]) {
-            Taken::To(to) => self.take_case(tree, term, n, to),
-            Taken::Not => self.go(tree, tree[default]),
-        }
-    }
-
-    // Closed: place, k, list, yes, no.
-    pub fn test_closed(self, tree: &[u32], term: &[u32]) -> Walk
-        requires { ⌜ Parted (now term) × Holds (now term) self × (self .at < length (now tree)) × (self .stands ≡ 0) ⌝ }
-        ensures { λ r. ⌜ ClosedTold (now (tree .entry)) (now (term .entry)) self r ⌝ }
-    {
-        let at = self.at;
-        if tree.len() - at < NODE_WORDS {
-            return self.stop(DAMAGED);
-        }
-        let n = tree[at + FIRST] as usize;
-        let k = tree[at + SECOND] as usize;
-        if self.count <= n {
-            return self.stop(DAMAGED);
-        }
-        let from = at + NODE_WORDS;
-        let offset = self.offsets[n] as usize;
-        match closed_taken(tree, from, k, &term[offset..], self.depths[n] as u32) {
-            Taken::To(to) => self.go(tree, to),
-            Taken::Not => self.stop(DAMAGED),
-        }
-    }
-
-    // Same: place, place, k, list, list, yes, no.
-    pub fn test_same(self, tree: &[u32], term: &[u32]) -> Walk
-        requires { ⌜ Parted (now term) × Holds (now term) self × (self .at < length (now tree)) × (self .stands ≡ 0) ⌝ }
-        ensures { λ r. ⌜ SameTold (now (tree .entry)) (now (term .entry)) self r ⌝ }
-    {
-        let at = self.at;
-        if tree.len() - at < SAME_WORDS {
-            return self.stop(DAMAGED);
-        }
-        let n = tree[at + FIRST] as usize;
-        let m = tree[at + SECOND] as usize;
-        let k = tree[at + THIRD] as usize;
-        if self.count <= n {
-            return self.stop(DAMAGED);
-        }
-        if self.count <= m {
-            return self.stop(DAMAGED);
-        }
-        let from = at + SAME_WORDS;
-        let a = self.offsets[n] as usize;
-        let b = self.offsets[m] as usize;
-        match same_taken(
-            tree,
-            from,
-            k,
-            &term[a..],
-            self.depths[n] as u32,
-            &term[b..],
-            self.depths[m] as u32,
-        ) {
-            Taken::To(to) => self.go(tree, to),
-            Taken::Not => self.stop(DAMAGED),
-        }
-    }
-
-    // Leaf: rule, n, then for each variable the place, k, the list. The whole Leaf is judged.
-    pub fn leaf(self, tree: &[u32], term: &[u32]) -> Walk
-        requires { ⌜ Parted (now term) × Holds (now term) self × (self .at < length (now tree)) × (self .stands ≡ 0) ⌝ }
-        ensures { λ r. ⌜ LeafTold (now (tree .entry)) (now (term .entry)) self r ⌝ }
-    {
-        let at = self.at;
-        if tree.len() - at < NODE_WORDS {
-            return self.stop(DAMAGED);
-        }
-        if MOST_RULES <= tree[at + FIRST] {
-            return self.stop(DAMAGED);
-        }
-        let n = tree[at + SECOND];
-        if MOST_VARS < n {
-            return self.stop(DAMAGED);
-        }
-        if !sound_leaf(self, tree, term, at + NODE_WORDS, n) {
-            return self.stop(DAMAGED);
-        }
-        self.stop(RULE)
-    }
-
-    // One node.
+    // One node: what it says is decided from what the state lends of itself, and then the state is handed on once.
     pub fn step(self, tree: &[u32], term: &[u32]) -> Walk
         requires { ⌜ Parted (now term) × Holds (now term) self × (self .stands ≡ 0) ⌝ }
         ensures { λ r. ⌜ StepTold (now (tree .entry)) (now (term .entry)) self r ⌝ }
     {
+        let count = self.count;
         let at = self.at;
-        if tree.len() <= at {
-            return self.stop(DAMAGED);
+        let decision = decide(
+            tree,
+            term,
+            &self.offsets,
+            &self.depths,
+            &self.entered,
+            count,
+            at,
+        );
+        match decision {
+            Decision::Enter(n, to) => self.enter(term, n, to),
+            Decision::Go(to) => self.test(to),
+            Decision::Stop(stands) => self.stop(stands),
         }
-        let tag = tree[at];
-        if tag == FAIL {
-            return self.stop(NO_RULE);
-        }
-        if tag == LEAF {
-            return self.leaf(tree, term);
-        }
-        if tag == SWITCH {
-            return self.switch(tree, term);
-        }
-        if tag == CLOSED {
-            return self.test_closed(tree, term);
-        }
-        if tag == SAME {
-            return self.test_same(tree, term);
-        }
-        self.stop(DAMAGED)
     }
 }
 

@@ -19,9 +19,18 @@ use Rattle.tree.specs.Find.{PartAt, rootPart, enterPart, bodyOr, leafBody, tota
 use Rattle.walk.specs.Walk.{Walked, NoneFits, RuleFits, DamagedAt, Next, Ends, Goes, unless, goTo, variablesIn, soundVariables, caseNext, switchNode, closedNode, sameNode, leafNode, nextAt, walkFrom, noBook}
 use Rattle.walk.specs.ByTree.{walkedMatch, walkedRule, MatchTreeOutcome, ruleGives}
 use Rattle.walk.specs.declared.state.Walk.{Walk}
+use Rattle.walk.specs.declared.decide.Decision.{Decision}
+use Rattle.walk.specs.declared.decide.Decision.the-variants.{Enter, Go, Stop}
 
 abbrev pub stoppedAs : Walk → ℕ → Walk
 stoppedAs s stands = record { offsets = s .offsets; depths = s .depths; entered = s .entered; count = s .count; at = s .at; stands = stands }
+
+abbrev pub movedTo : Walk → ℕ → Walk
+movedTo s to = record { offsets = s .offsets; depths = s .depths; entered = s .entered; count = s .count; at = to; stands = s .stands }
+
+-- the state that goes on and lends these fields
+abbrev pub seen : List ℕ → List ℕ → List Bool → ℕ → ℕ → Walk
+seen offsets depths entered count at = record { offsets = offsets; depths = depths; entered = entered; count = count; at = at; stands = 0 }
 
 abbrev pub entryAt : Walk
 entryAt = record { offsets = replicate 4096 0; depths = replicate 4096 0; entered = replicate 4096 false; count = 1; at = 0; stands = 0 }
@@ -93,9 +102,6 @@ Said table term next s (suc (suc (suc n))) = (fits : ℕ → List ℕ → Bool) 
 unfoldable pub Told : List ℕ → List ℕ → ((ℕ → List ℕ → Bool) → Next) → Walk → Type 0
 Told table term next s = Holds term s × Said table term next s (s .stands)
 
-abbrev pub GoTold : List ℕ → Walk → ℕ → Walk → Type 0
-GoTold table s to r = (term : List ℕ) → Holds term s → Told table term (λ fits. goTo table (s .at) to (placesOf term s)) r
-
 -- the state after a place was entered
 pub record EnterTold (term : List ℕ) (s : Walk) (n to : ℕ) (r : Walk) : Type 0 where
   pub holds : Holds term r
@@ -103,23 +109,54 @@ pub record EnterTold (term : List ℕ) (s : Walk) (n to : ℕ) (r : Walk) : Type
   pub there : r .at ≡ to
   pub same : r .stands ≡ s .stands
 
-abbrev pub CaseTaken : List ℕ → List ℕ → Walk → ℕ → ℕ → Walk → Type 0
-CaseTaken table term s n to r = Told table term (λ fits. caseNext table (s .at) n (placesOf term s) 0 (some to)) r
-
-abbrev pub SwitchTold : List ℕ → List ℕ → Walk → Walk → Type 0
-SwitchTold table term s r = Told table term (λ fits. switchNode table (s .at) (placesOf term s) (drop (s .at + 1) table)) r
-
-abbrev pub ClosedTold : List ℕ → List ℕ → Walk → Walk → Type 0
-ClosedTold table term s r = Told table term (λ fits. closedNode table (s .at) (placesOf term s) (drop (s .at + 1) table)) r
-
-abbrev pub SameTold : List ℕ → List ℕ → Walk → Walk → Type 0
-SameTold table term s r = Told table term (λ fits. sameNode table (s .at) (placesOf term s) (drop (s .at + 1) table)) r
-
-abbrev pub LeafTold : List ℕ → List ℕ → Walk → Walk → Type 0
-LeafTold table term s r = Told table term (λ fits. leafNode fits (s .at) (placesOf term s) (drop (s .at + 1) table)) r
-
 abbrev pub StepTold : List ℕ → List ℕ → Walk → Walk → Type 0
 StepTold table term s r = Told table term (λ fits. nextAt fits table (s .at) (placesOf term s)) r
+
+-- ---- what a node says, as it is decided before the state is handed on
+unfoldable pub Decided : List ℕ → List ℕ → ((ℕ → List ℕ → Bool) → Next) → Walk → Decision → Type 0
+Decided table term next s (Enter n to) = (n < s .count) × (getD (s .entered) n false ≡ false) × ((fits : ℕ → List ℕ → Bool) → next fits ≡ Goes to (enterPart n (placesOf term s)))
+Decided table term next s (Go to) = (fits : ℕ → List ℕ → Bool) → next fits ≡ Goes to (placesOf term s)
+Decided table term next s (Stop n) = Said table term next s n
+
+abbrev pub NodeDecided : List ℕ → List ℕ → Walk → Decision → Type 0
+NodeDecided table term s d = Decided table term (λ fits. nextAt fits table (s .at) (placesOf term s)) s d
+
+abbrev pub SwitchDecided : List ℕ → List ℕ → Walk → Decision → Type 0
+SwitchDecided table term s d = Decided table term (λ fits. switchNode table (s .at) (placesOf term s) (drop (s .at + 1) table)) s d
+
+abbrev pub ClosedDecided : List ℕ → List ℕ → Walk → Decision → Type 0
+ClosedDecided table term s d = Decided table term (λ fits. closedNode table (s .at) (placesOf term s) (drop (s .at + 1) table)) s d
+
+abbrev pub SameDecided : List ℕ → List ℕ → Walk → Decision → Type 0
+SameDecided table term s d = Decided table term (λ fits. sameNode table (s .at) (placesOf term s) (drop (s .at + 1) table)) s d
+
+abbrev pub LeafDecided : List ℕ → List ℕ → Walk → Decision → Type 0
+LeafDecided table term s d = Decided table term (λ fits. leafNode fits (s .at) (placesOf term s) (drop (s .at + 1) table)) s d
+
+-- an address and a case, for every state that is there
+abbrev pub GoTold : List ℕ → ℕ → ℕ → Decision → Type 0
+GoTold table at to d = (term : List ℕ) (s : Walk) → s .at ≡ at → Decided table term (λ fits. goTo table (s .at) to (placesOf term s)) s d
+
+abbrev pub CaseTaken : List ℕ → ℕ → ℕ → Bool → ℕ → Decision → Type 0
+CaseTaken table at n entered to d = (term : List ℕ) (s : Walk) → Parted term → Holds term s → s .at ≡ at → n < s .count → getD (s .entered) n false ≡ entered
+    → Decided table term (λ fits. caseNext table (s .at) n (placesOf term s) 0 (some to)) s d
+
+-- a node, for every state that lends these fields
+abbrev pub SwitchTold : List ℕ → List ℕ → List ℕ → List Bool → ℕ → ℕ → Decision → Type 0
+SwitchTold table term offsets entered count at d = (depths : List ℕ) → Holds term (seen offsets depths entered count at) → SwitchDecided table term (seen offsets depths entered count at) d
+
+abbrev pub ClosedTold : List ℕ → List ℕ → List ℕ → List ℕ → ℕ → ℕ → Decision → Type 0
+ClosedTold table term offsets depths count at d = (entered : List Bool) → Holds term (seen offsets depths entered count at) → ClosedDecided table term (seen offsets depths entered count at) d
+
+abbrev pub SameTold : List ℕ → List ℕ → List ℕ → List ℕ → ℕ → ℕ → Decision → Type 0
+SameTold table term offsets depths count at d = (entered : List Bool) → Holds term (seen offsets depths entered count at) → SameDecided table term (seen offsets depths entered count at) d
+
+abbrev pub LeafTold : List ℕ → List ℕ → List ℕ → List ℕ → ℕ → ℕ → Decision → Type 0
+LeafTold table term offsets depths count at d = (entered : List Bool) → Holds term (seen offsets depths entered count at) → LeafDecided table term (seen offsets depths entered count at) d
+
+abbrev pub SoundTold : List ℕ → List ℕ → List ℕ → List ℕ → ℕ → ℕ → ℕ → Bool → Type 0
+SoundTold table term offsets depths count from n r = (entered : List Bool) → Holds term (seen offsets depths entered count from)
+    → r ≡ soundLeaf (placesOf term (seen offsets depths entered count from)) (variablesIn n (drop from table))
 
 -- ---- how a walk stands: it goes on from here, or it ended
 pub record LeafFound (table term : List ℕ) (walked : (ℕ → List ℕ → Bool) → Walked) (s : Walk) : Type 0 where

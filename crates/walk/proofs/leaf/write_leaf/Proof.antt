@@ -6,7 +6,7 @@ use Prim.Native.Nat.{_+_, _-_}
 use lib.ListN.{length, length-drop, getD, drop, drop-of-length-le}
 use Rattle.term.proofs.Laws.{cleared, suffix}
 use Rattle.walk.proofs.Addresses.{lent}
-use Rattle.walk.proofs.Leaves.{part-at, Writing, writing-start, writing-done, writing-first, writing-short, writing-more, written-few, written-bounds}
+use Rattle.walk.proofs.Leaves.{part-at, Writing, writing-start, writing-done, writing-first, writing-short, writing-zeros, writing-more, written-few, written-bounds}
 use Rattle.walk.proofs.leaf.write_leaf.Statement.{statement}
 use Rattle.walk.proofs.leaf.write_leaf.Tie as tie
 
@@ -161,6 +161,12 @@ part-write-part-start-3 c =
     let turn = c .before .before .before .before .before .before .before in
     omega (arith, turn .loop .inv .many .long, turn .loop .inv .many .within)
 
+write-part-requires : tie.Need-write-part-requires Inv-loop μ-loop
+write-part-requires c κs =
+    let start = c .before .before .before .before .before .before .before .before .before .before .before .before .before .before in
+    let turn = c .before .before .before .before .before .before .before .before in
+    writing-zeros (start .args .tree .now) (start .args .term .now) (start .args .t1) (start .pre .0) (start .pre .1) (start .pre .2) _ _ _ _ _ _ (turn .loop .inv) (c .before .before .before .before .before .before .before .loop-test .taken) _ (suffix (turn .loop .to) (turn .loop .bodies))
+
 cast-lengths : tie.Need-cast-lengths Inv-loop μ-loop
 cast-lengths c =
     let start = c .before .before .before .before .before .before .before .before .before .before .before .before .before .before .before .before .before .before .before .before in
@@ -264,7 +270,7 @@ write-leaf-spec =
     sub-write-part-3
     part-write-part-start-3
     (λ c. omega arith)
-    (λ c κs. search needs)
+    write-part-requires
     (λ c. search needs)
     cast-lengths
     mul-lengths
