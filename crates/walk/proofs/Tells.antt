@@ -11,7 +11,11 @@ use Rattle.walk.specs.Walk.{NoneFits, DamagedAt, Next, Ends, Goes, goTo}
 use Rattle.walk.specs.declared.state.Walk.{Walk}
 use Rattle.walk.specs.declared.decide.Decision.{Decision}
 use Rattle.walk.specs.declared.decide.Decision.the-variants.{Enter, Go, Stop}
-use Rattle.walk.specs.told.State.{stoppedAs, movedTo, seen, placesOf, Holds, LeafAt, Said, Told, EnterTold, Decided}
+use Rattle.walk.specs.told.State.{stoppedAs, movedTo, seen, placesOf, Holds, LeafAt, Said, EnterTold, Decided}
+
+-- what a node says, as the state has it that was handed on
+unfoldable pub Told : List ℕ → List ℕ → ((ℕ → List ℕ → Bool) → Next) → Walk → Type 0
+Told table term next s = Holds term s × Said table term next s (s .stands)
 
 pub decided-same : (table term : List ℕ) (next other : (ℕ → List ℕ → Bool) → Next) (s : Walk) (d : Decision) → ((fits : ℕ → List ℕ → Bool) → next fits ≡ other fits)
     → Decided table term other s d → Decided table term next s d

@@ -17,9 +17,9 @@ use Rattle.walk.specs.Walk.{Walked, DamagedAt, Ends, unless, leafNode, s
 use Rattle.walk.specs.declared.state.Walk.{Walk}
 use Rattle.walk.specs.declared.decide.Decision.{Decision}
 use Rattle.walk.specs.declared.decide.Decision.the-variants.{Stop}
-use Rattle.walk.specs.told.State.{entryAt, partFrom, placeIn, placesFrom, placesOf, Parted, Holds, leafVariables, leafRule, Said, Told, NodeDecided, SwitchDecided, ClosedDecided, SameDecided, LeafDecided, StepTold, Stood, Standing, WalkTold}
+use Rattle.walk.specs.told.State.{entryAt, partFrom, placeIn, placesFrom, placesOf, Parted, Holds, leafVariables, leafRule, Said, NodeDecided, SwitchDecided, ClosedDecided, SameDecided, LeafDecided, Stood, Standing, WalkTold}
 use Rattle.walk.proofs.Steps.{later-next, walk-is}
-use Rattle.walk.proofs.Tells.{decided-same, decided-damaged, decided-no-rule}
+use Rattle.walk.proofs.Tells.{Told, decided-same, decided-damaged, decided-no-rule}
 use Rattle.walk.proofs.Uncovered.{from-stands}
 
 -- ---- one node, by its tag
@@ -67,7 +67,7 @@ module _ (table term : List ℕ) (s : Walk) where
 abbrev pub left : List ℕ → Walk → ℕ
 left table s = pick (eqb (s .stands) 0) (suc (length table - s .at)) 0
 
-module _ (table term : List ℕ) (s r : Walk) (going : s .stands ≡ 0) (t : StepTold table term s r) where
+module _ (table term : List ℕ) (s r : Walk) (going : s .stands ≡ 0) (t : Told table term (λ fits. nextAt fits table (s .at) (placesOf term s)) r) where
   pub step-less : left table r < left table s
   unfolding Told
   step-less = rw (eq-eqb (s .stands) 0 going) (go (r .stands) (t .1))
@@ -104,10 +104,6 @@ module _ (table term : List ℕ) (s r : Walk) (going : s .stands ≡ 0) (t : Ste
                 ∙ chosen (fits (getD table (r .at + 1) 0) (countsOf (leafVariables table (r .at)))) (walkFrom fits table) (r .at) (leafRule table (placesOf term r) (r .at));
           }
       go (suc (suc (suc n))) e = λ fits. here fits ∙ ap (follow (walkFrom fits table)) (e fits)
-
-  pub step-holds : Holds term r
-  unfolding Told
-  step-holds = t .0
 
 -- ---- the root
 module _ (term : List ℕ) (p : Parted term) (some-words : 0 < length term) where

@@ -53,12 +53,11 @@ pub fn sound_leaf(
         if count <= place {
             return false;
         }
-        let end = list + k;
         let offset = offsets[place] as usize;
-        if !is_closed(&term[offset..], depths[place] as u32, &tree[list..end]) {
+        if !is_closed(&term[offset..], depths[place] as u32, &tree[list..list + k]) {
             return false;
         }
-        at = end;
+        at = list + k;
         more = more - 1;
     }
     true

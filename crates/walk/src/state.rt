@@ -3,7 +3,7 @@ ghost use mathlib.Core.Path.{_≡_};
 ghost use Prim.Native.Nat.{_<_};
 ghost use mathlib.Core.Bool.{false};
 ghost use lib.ListN.{length, getD};
-ghost use Rattle.walk.specs.told.State.{stoppedAs, movedTo, entryAt, Parted, Holds, EnterTold, StepTold, WalkTold};
+ghost use Rattle.walk.specs.told.State.{stoppedAs, movedTo, entryAt, Parted, Holds, EnterTold, WalkTold};
 use crate::decide::Decision;
 use crate::decide::decide;
 use term::part::part_end;
@@ -95,39 +95,32 @@ impl Walk {
         self.at = to;
         self
     }
-
-    // One node: what it says is decided from what the state lends of itself, and then the state is handed on once.
-    pub fn step(self, tree: &[u32], term: &[u32]) -> Walk
-        requires { ⌜ Parted (now term) × Holds (now term) self × (self .stands ≡ 0) ⌝ }
-        ensures { λ r. ⌜ StepTold (now (tree .entry)) (now (term .entry)) self r ⌝ }
-    {
-        let count = self.count;
-        let at = self.at;
-        let decision = decide(
-            tree,
-            term,
-            &self.offsets,
-            &self.depths,
-            &self.entered,
-            count,
-            at,
-        );
-        match decision {
-            Decision::Enter(n, to) => self.enter(term, n, to),
-            Decision::Go(to) => self.test(to),
-            Decision::Stop(stands) => self.stop(stands),
-        }
-    }
 }
 
-// Walks the tree over the part that the words begin with, node by node, until it ends.
+// Walks the tree over the part that the words begin with, node by node, until it ends. What a node says is decided from what the state
+// lends of itself, so the state is handed on once for a node.
 pub fn walk_tree(tree: &[u32], term: &[u32]) -> Walk
     requires { ⌜ Parted (now term) × (0 < length (now term)) ⌝ }
     ensures { λ r. ⌜ WalkTold (now (tree .entry)) (now (term .entry)) r ⌝ }
 {
     let mut walk = Walk::new();
     while walk.stands == GOING {
-        walk = walk.step(tree, term);
+        let count = walk.count;
+        let at = walk.at;
+        let decision = decide(
+            tree,
+            term,
+            &walk.offsets,
+            &walk.depths,
+            &walk.entered,
+            count,
+            at,
+        );
+        match decision {
+            Decision::Enter(n, to) => walk = walk.enter(term, n, to),
+            Decision::Go(to) => walk = walk.test(to),
+            Decision::Stop(stands) => walk = walk.stop(stands),
+        }
     }
     walk
 }

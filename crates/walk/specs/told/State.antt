@@ -99,18 +99,12 @@ Said table term next s (suc zero) = (fits : ℕ → List ℕ → Bool) → next 
 Said table term next s (suc (suc zero)) = LeafAt table term next s
 Said table term next s (suc (suc (suc n))) = (fits : ℕ → List ℕ → Bool) → next fits ≡ Ends (DamagedAt (s .at))
 
-unfoldable pub Told : List ℕ → List ℕ → ((ℕ → List ℕ → Bool) → Next) → Walk → Type 0
-Told table term next s = Holds term s × Said table term next s (s .stands)
-
 -- the state after a place was entered
 pub record EnterTold (term : List ℕ) (s : Walk) (n to : ℕ) (r : Walk) : Type 0 where
   pub holds : Holds term r
   pub places : placesOf term r ≡ enterPart n (placesOf term s)
   pub there : r .at ≡ to
   pub same : r .stands ≡ s .stands
-
-abbrev pub StepTold : List ℕ → List ℕ → Walk → Walk → Type 0
-StepTold table term s r = Told table term (λ fits. nextAt fits table (s .at) (placesOf term s)) r
 
 -- ---- what a node says, as it is decided before the state is handed on
 unfoldable pub Decided : List ℕ → List ℕ → ((ℕ → List ℕ → Bool) → Next) → Walk → Decision → Type 0

@@ -11,26 +11,29 @@ use Rattle.walk.proofs.leaf.write_part.Tie as tie
 returns : tie.Need-returns
 returns c =
     let start = c .before .before .before .before .before in
-    let s = start .args in part-none (s .d) (s .list .now) (s .words .now) (s .out .now) _ (c .before .part-end .ensures) (c .if1 .taken) _
+    let s = start .args in
+    part-none (s .d) (s .list .now) (s .words .now) (s .out .now) _ (c .before .part-end .ensures) (c .if1 .taken) _
 
 slice-aggregate-write-body : tie.Need-slice-aggregate-write-body
-slice-aggregate-write-body c =
-    sym (length-take-le _ _ (omega (arith, c .before .if1 .left)))
+slice-aggregate-write-body c = sym (length-take-le _ _ (omega (arith, c .before .if1 .left)))
 
 returns-2 : tie.Need-returns-2
 returns-2 c =
     let start = c .before .before .before .before .before .before .before .before .before .before .before .before in
-    let s = start .args in part-lent (s .d) (s .list .now) (s .words .now) (s .out .now) _ (c .before .before .before .before .before .before .before .before .part-end .ensures) (omega (arith, c .before .before .before .before .before .before .before .if1 .left)) (start .pre) _ _ (sym (c .before .n .given .1) ∙ c .before .before .before .before .before .write-body .ensures .0) (c .before .before .before .before .before .write-body .ensures .1)
+    let s = start .args in
+    part-lent (s .d) (s .list .now) (s .words .now) (s .out .now) _ (c .before .before .before .before .before .before .before .before .part-end .ensures) (omega (arith, c .before .before .before .before .before .before .before .if1 .left)) (start .pre) _ _ (sym (c .before .n .given .1) ∙ c .before .before .before .before .before .write-body .ensures .0) (c .before .before .before .before .before .write-body .ensures .1)
 
 returns-3 : tie.Need-returns-3
 returns-3 c =
     let start = c .before .before .before .before .before .before .before .before .before .before .before in
-    let s = start .args in part-lent-short (s .d) (s .list .now) (s .words .now) (s .out .now) _ (c .before .before .before .before .before .before .before .part-end .ensures) (omega (arith, c .before .before .before .before .before .before .if1 .left)) _ (sym (c .enum-told .given .1) ∙ c .before .before .before .before .write-body .ensures .0) (λ n e. never (cc)) _
+    let s = start .args in
+    part-lent-short (s .d) (s .list .now) (s .words .now) (s .out .now) _ (c .before .before .before .before .before .before .before .part-end .ensures) (omega (arith, c .before .before .before .before .before .before .if1 .left)) _ (sym (c .enum-told .given .1) ∙ c .before .before .before .before .write-body .ensures .0) (λ n e. never (cc)) _
 
 returns-4 : tie.Need-returns-4
 returns-4 c =
     let start = c .before .before .before .before .before .before .before .before .before .before .before in
-    let s = start .args in part-lent-short (s .d) (s .list .now) (s .words .now) (s .out .now) _ (c .before .before .before .before .before .before .before .part-end .ensures) (omega (arith, c .before .before .before .before .before .before .if1 .left)) _ (sym (c .enum-told2 .given .1) ∙ c .before .before .before .before .write-body .ensures .0) (λ n e. never (cc)) _
+    let s = start .args in
+    part-lent-short (s .d) (s .list .now) (s .words .now) (s .out .now) _ (c .before .before .before .before .before .before .before .part-end .ensures) (omega (arith, c .before .before .before .before .before .before .if1 .left)) _ (sym (c .enum-told2 .given .1) ∙ c .before .before .before .before .write-body .ensures .0) (λ n e. never (cc)) _
 
 pub write-part-spec : {M : Type 1} → statement M
 write-part-spec =

@@ -3,6 +3,7 @@ use borrow.Author.Needs.{needs}
 use Rattle.tree.specs.Find.{rootPart}
 use Rattle.walk.specs.Walk.{walkFrom}
 use Rattle.walk.specs.told.State.{partFrom, Standing}
+use Rattle.walk.proofs.Tells.{holds-seen, told-stop, told-go, told-enter, enter-there}
 use Rattle.walk.proofs.Walking.{left, step-less, step-stands, entry-stands, walk-ended, standing-holds}
 use Rattle.walk.proofs.state.walk_tree.Statement.{statement}
 use Rattle.walk.proofs.state.walk_tree.Tie as tie
@@ -16,23 +17,91 @@ abbrev μ-loop : tie.MeasureT-loop
 loop-holds : tie.Need-loop-holds Inv-loop μ-loop
 loop-holds c =
     let start = c .before .before .before in
-    let s = start .args in rw (c .new .ensures) (entry-stands (s .term .now) (start .pre .0) (start .pre .1) (s .tree .now))
+    let s = start .args in
+    rw (c .new .ensures) (entry-stands (s .term .now) (start .pre .0) (start .pre .1) (s .tree .now))
 
-step-requires : tie.Need-step-requires Inv-loop μ-loop
-step-requires c κs = (c .before .before .before .before .before .before .pre .0, standing-holds _ _ _ _ (c .before .before .loop .inv), c .if1 .taken)
+decide-requires : tie.Need-decide-requires Inv-loop μ-loop
+decide-requires c κs =
+    let start = c .before .before .before .before .before .before .before .before .before .before .before .before in
+    let s = start .args in
+    let q = c .before .before .before .before .before .before .before .before .loop in
+    (start .pre .0, holds-seen (s .term .now) (q .walk) (q .walk .at) (standing-holds _ _ _ _ (q .inv)))
+
+enter-requires : tie.Need-enter-requires Inv-loop μ-loop
+enter-requires c κs =
+    let start = c .before .before .before .before .before .before .before .before .before .before .before .before .before .before .before .before in
+    let s = start .args in
+    let q = c .before .before .before .before .before .before .before .before .before .before .before .before .loop in
+    let e = enter-there (s .tree .now) (s .term .now) _ (q .walk) (standing-holds _ _ _ _ (q .inv)) _ (c .before .before .before .decide .ensures) _ _ (c .before .decision .given .1) in (start .pre .0, standing-holds _ _ _ _ (q .inv), e .0, e .1)
 
 loop-less : tie.Need-loop-less Inv-loop μ-loop
-loop-less c = let s = c .before .before .before .before .before .before .before .args in step-less (s .tree .now) (s .term .now) (c .before .before .before .loop .walk) _ (c .before .if1 .taken) (c .step .ensures)
+loop-less c =
+    let start = c .before .before .before .before .before .before .before .before .before .before .before .before .before .before .before .before .before in
+    let s = start .args in
+    let q = c .before .before .before .before .before .before .before .before .before .before .before .before .before .loop in
+    step-less (s .tree .now) (s .term .now) (q .walk) _ (c .before .before .before .before .before .before .before .before .before .before .before .before .loop-test .taken) (told-enter (s .tree .now) (s .term .now) _ (q .walk) (standing-holds _ _ _ _ (q .inv)) _ (c .before .before .before .before .decide .ensures) (c .before .before .before .before .before .before .before .before .before .before .before .before .loop-test .taken) _ _ (c .before .before .decision .given .1) _ (c .enter .ensures))
 
 loop-again : tie.Need-loop-again Inv-loop μ-loop
 loop-again c =
-    let turn = c .before .before .before in
-    let s = c .before .before .before .before .before .before .before .args in step-stands (s .tree .now) (s .term .now) (turn .loop .walk) _ (c .before .if1 .taken) (c .step .ensures) _ (turn .loop .inv)
+    let start = c .before .before .before .before .before .before .before .before .before .before .before .before .before .before .before .before .before in
+    let s = start .args in
+    let q = c .before .before .before .before .before .before .before .before .before .before .before .before .before .loop in
+    step-stands (s .tree .now) (s .term .now) (q .walk) _ (c .before .before .before .before .before .before .before .before .before .before .before .before .loop-test .taken) (told-enter (s .tree .now) (s .term .now) _ (q .walk) (standing-holds _ _ _ _ (q .inv)) _ (c .before .before .before .before .decide .ensures) (c .before .before .before .before .before .before .before .before .before .before .before .before .loop-test .taken) _ _ (c .before .before .decision .given .1) _ (c .enter .ensures)) _ (q .inv)
+
+loop-less-2 : tie.Need-loop-less-2 Inv-loop μ-loop
+loop-less-2 c =
+    let start = c .before .before .before .before .before .before .before .before .before .before .before .before .before .before .before .before .before in
+    let s = start .args in
+    let q = c .before .before .before .before .before .before .before .before .before .before .before .before .before .loop in
+    step-less (s .tree .now) (s .term .now) (q .walk) _ (c .before .before .before .before .before .before .before .before .before .before .before .before .loop-test .taken) (told-go (s .tree .now) (s .term .now) _ (q .walk) (standing-holds _ _ _ _ (q .inv)) _ (c .before .before .before .before .decide .ensures) (c .before .before .before .before .before .before .before .before .before .before .before .before .loop-test .taken) _ (c .before .before .decision2 .given .1) _ (c .test .ensures))
+
+loop-again-2 : tie.Need-loop-again-2 Inv-loop μ-loop
+loop-again-2 c =
+    let start = c .before .before .before .before .before .before .before .before .before .before .before .before .before .before .before .before .before in
+    let s = start .args in
+    let q = c .before .before .before .before .before .before .before .before .before .before .before .before .before .loop in
+    step-stands (s .tree .now) (s .term .now) (q .walk) _ (c .before .before .before .before .before .before .before .before .before .before .before .before .loop-test .taken) (told-go (s .tree .now) (s .term .now) _ (q .walk) (standing-holds _ _ _ _ (q .inv)) _ (c .before .before .before .before .decide .ensures) (c .before .before .before .before .before .before .before .before .before .before .before .before .loop-test .taken) _ (c .before .before .decision2 .given .1) _ (c .test .ensures)) _ (q .inv)
+
+loop-less-3 : tie.Need-loop-less-3 Inv-loop μ-loop
+loop-less-3 c =
+    let start = c .before .before .before .before .before .before .before .before .before .before .before .before .before .before .before .before .before in
+    let s = start .args in
+    let q = c .before .before .before .before .before .before .before .before .before .before .before .before .before .loop in
+    step-less (s .tree .now) (s .term .now) (q .walk) _ (c .before .before .before .before .before .before .before .before .before .before .before .before .loop-test .taken) (told-stop (s .tree .now) (s .term .now) _ (q .walk) (standing-holds _ _ _ _ (q .inv)) _ (c .before .before .before .before .decide .ensures) _ (c .before .before .decision3 .given .1) _ (c .stop .ensures))
+
+loop-again-3 : tie.Need-loop-again-3 Inv-loop μ-loop
+loop-again-3 c =
+    let start = c .before .before .before .before .before .before .before .before .before .before .before .before .before .before .before .before .before in
+    let s = start .args in
+    let q = c .before .before .before .before .before .before .before .before .before .before .before .before .before .loop in
+    step-stands (s .tree .now) (s .term .now) (q .walk) _ (c .before .before .before .before .before .before .before .before .before .before .before .before .loop-test .taken) (told-stop (s .tree .now) (s .term .now) _ (q .walk) (standing-holds _ _ _ _ (q .inv)) _ (c .before .before .before .before .decide .ensures) _ (c .before .before .decision3 .given .1) _ (c .stop .ensures)) _ (q .inv)
 
 returns : tie.Need-returns Inv-loop μ-loop
-returns c = let s = c .before .before .before .before .before .before .args in walk-ended (s .tree .now) (s .term .now) _ (c .before .before .loop .inv) (c .if1 .left)
+returns c =
+    let start = c .before .before .before .before .before in
+    let s = start .args in
+    let q = c .before .loop in
+    walk-ended (s .tree .now) (s .term .now) _ (q .inv) (c .loop-test .left)
 
 pub walk-tree-spec : {M : Type 1} → statement M
 walk-tree-spec =
     tie.close
-    (tie.spec Inv-loop μ-loop (λ c κs. search needs) loop-holds step-requires loop-less loop-again returns)
+    (tie.spec
+    Inv-loop
+    μ-loop
+    (λ c κs. search needs)
+    loop-holds
+    decide-requires
+    (λ c. search needs)
+    enter-requires
+    loop-less
+    loop-again
+    (λ c. search needs)
+    (λ c κs. search needs)
+    loop-less-2
+    loop-again-2
+    (λ c. search needs)
+    (λ c κs. search needs)
+    loop-less-3
+    loop-again-3
+    returns)
