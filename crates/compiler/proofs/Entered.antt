@@ -17,16 +17,16 @@ use Rattle.fit.specs.Match.{leftIn}
 use Rattle.tree.specs.Path.{Uncovered, OnPath, placeNumbered, enter}
 use Rattle.tree.specs.Rows.{subsUnder, headHere, headAt}
 use Rattle.tree.specs.Compile.{entering}
-use Rattle.compiler.specs.told.Tables.{Changed, isFree, struckRows, hasOther, rowsNumbered}
+use Rattle.compiler.specs.told.Tables.{Changed, isFree, ofFreeRow, struckRows, hasOther, rowsNumbered}
 use Rattle.tree.specs.told.Covered.{numberedAs, isOpen, Covered}
 use Rattle.compiler.specs.told.Stands.{RowStands, Stands}
 use Rattle.tree.proofs.Laws.{entering-is, from-start, subs-root, head-sub, enter-keeps, enter-shuts, enter-opens, entered-once, entered-new, entered-above, length-enter, enter-covered}
-use Rattle.compiler.proofs.Restores.{Grown}
+use Rattle.compiler.proofs.Restores.{Grown, Apart}
 use Rattle.compiler.proofs.Strikes.{number-own}
 use Rattle.compiler.proofs.StruckRows.{struck-later, struck-kept}
 use Rattle.compiler.proofs.Pigeonhole.{pigeonhole}
 use Rattle.compiler.proofs.EnteredRows.{childCount, Enters, free-before, kids-count}
-use Rattle.compiler.proofs.EnteredTables.{grown-stays, Upto, all-numbered}
+use Rattle.compiler.proofs.EnteredTables.{grown-stays, Upto, all-numbered, all-apart}
 
 -- there are at most 4,096 places
 pub count-most : (book fixed nums marks : List ℕ) (total : ℕ) (path : OnPath) → Stands book fixed nums marks total path → length nums ≡ 4096 → total ≤ 4096
@@ -158,7 +158,9 @@ module _ (book fixed nums marks : List ℕ) (total : ℕ) (path : OnPath) (s : S
 
   pub entered-grown : (n : ℕ) → n < total → isOpen n (path .uncovered) ≡ true → (h : Head) (r : ℕ) (rule : Rule) → r < 64 → isFree marks r ≡ true → ruleAt book r ≡ some rule
       → headAt (leftIn rule) (placeNumbered n (path .uncovered)) ≡ some h → (m : ℕ) → (m ≡ 0 → ⊥) → (struck : List ℕ) → Changed (struckRows (hasOther fixed nums n (word h)) m) marks struck
-      → length struck ≡ 12352 → length nums ≡ 4096 → length fixed ≡ 8256 → Grown total nums (rowsNumbered fixed struck n total 0 64 nums)
+      → length struck ≡ 12352 → length nums ≡ 4096 → length fixed ≡ 8256
+      → Grown total nums (rowsNumbered fixed struck n total 0 64 nums) × Apart (ofFreeRow struck 0) nums (rowsNumbered fixed struck n total 0 64 nums)
   entered-grown n known opened h r rule few free is head m mark struck changed long spots words =
-      all-numbered book fixed nums marks total path n h m struck
-      (record { stands = s; known = known; opened = opened; row = r; rule = rule; few = few; free = free; is = is; head = head; mark = mark; changed = changed; spots = spots; words = words }) .grown
+      let e : Enters book fixed nums marks total path n h m struck =
+      record { stands = s; known = known; opened = opened; row = r; rule = rule; few = few; free = free; is = is; head = head; mark = mark; changed = changed; spots = spots; words = words } in
+      (all-numbered book fixed nums marks total path n h m struck e .grown, all-apart book fixed nums marks total path n h m struck e)

@@ -8,17 +8,18 @@ use Prim.Native.Nat.{ℕ, zero, suc, _+_, _*_, _≤_, _<_}
 use native.Mathlib.Omega.{arith}
 use native.Mathlib.Decide.{decLe}
 use lib.ListN.{length, getD}
-use borrow.Author.Tests.{eqb-false}
-use Rattle.term.specs.Word.{Head}
+use lib.Dec.{ltb}
+use borrow.Author.Tests.{eqb-false, ltb-true, ltb-false}
+use Rattle.term.specs.Word.{Head, pick}
 use Rattle.term.proofs.Laws.{never}
 use Rattle.book.specs.Book.{Rule, ruleAt}
 use Rattle.fit.specs.Left.{Left}
 use Rattle.fit.specs.Match.{leftIn}
 use Rattle.tree.specs.Path.{OnPath, enter}
-use Rattle.compiler.specs.told.Tables.{isFree, rowNumbered, rowsNumbered}
+use Rattle.compiler.specs.told.Tables.{isFree, rowOf, ofFreeRow, rowNumbered, rowsNumbered}
 use Rattle.compiler.specs.told.Stands.{spread, LeftAt, BlankAt}
 use Rattle.compiler.proofs.NumberLaws.{row-struck}
-use Rattle.compiler.proofs.Restores.{GrownAt, Grown, grown-none, grown-join}
+use Rattle.compiler.proofs.Restores.{GrownAt, Grown, grown-none, grown-join, Apart}
 use Rattle.compiler.proofs.EnteredSpots.{same-left, kept-blank}
 use Rattle.compiler.proofs.EnteredRow.{RowDone}
 use Rattle.compiler.proofs.EnteredRows.{childCount, Enters, free-before, row-free, some-rule, row-done}
@@ -45,6 +46,7 @@ module _ (book fixed nums marks : List ℕ) (total : ℕ) (path : OnPath) (n : �
   pub record Upto (r : ℕ) (now : List ℕ) : Type 0 where
     pub grown : Grown total nums now
     pub later : (o : ℕ) → r * 64 ≤ o → getD now o 0 ≡ getD nums o 0
+    pub apart : (o : ℕ) → isFree struck (rowOf 0 o) ≡ false → getD now o 0 ≡ getD nums o 0
     pub most : (o : ℕ) → getD now o 0 ≤ total + childCount h
     pub done : (q : ℕ) (rule : Rule) → q < r → isFree struck q ≡ true → ruleAt book q ≡ some rule → LeftStands now q (leftIn rule)
     pub used : e .row < r → (i : ℕ) → i < childCount h → (o : ℕ) × (o < 4096) × (getD now o 0 ≡ suc (total + i))
@@ -54,6 +56,7 @@ module _ (book fixed nums marks : List ℕ) (total : ℕ) (path : OnPath) (n : �
       record {
         grown = grown-none total nums;
         later = λ o l. refl;
+        apart = λ o f. refl;
         most = λ o. omega (arith, e .stands .most o);
         done = λ q rule l. absurd (omega arith);
         used = λ l. absurd (omega arith);
@@ -81,11 +84,17 @@ module _ (book fixed nums marks : List ℕ) (total : ℕ) (path : OnPath) (n : �
           record {
             grown = grown-join total nums now (rowNumbered fixed struck n total r now) (u .grown) (d rule q .numbered .grown);
             later = λ o a. d rule q .numbered .after o (omega arith) ∙ u .later o (omega arith);
+            apart = λ o a. apart-one o a (decLe (r * 64) o) (decLe (r * 64 + 64) o);
             most = λ o. d rule q .numbered .most o (u .most o);
             done = λ p other a b c. done-one p other a b c (decLe (suc p) r);
             used = λ a i b. used-one a i b (decLe (suc (e .row)) r);
           }
         where
+          apart-one : (o : ℕ) → isFree struck (rowOf 0 o) ≡ false → Dec (r * 64 ≤ o) → Dec (r * 64 + 64 ≤ o) → getD (rowNumbered fixed struck n total r now) o 0 ≡ getD nums o 0
+          apart-one o a (no y) z = d rule q .numbered .before o (omega arith) ∙ u .apart o a
+          apart-one o a (yes y) (yes z) = d rule q .numbered .after o z ∙ u .apart o a
+          apart-one o a (yes y) (no z) = let w : rowOf 0 o ≡ r = omega arith in let k : isFree struck r ≡ false = rw w at a in never (cc)
+
           done-one : (p : ℕ) (other : Rule) → p < suc r → isFree struck p ≡ true → ruleAt book p ≡ some other → Dec (suc p ≤ r) → LeftStands (rowNumbered fixed struck n total r now) p (leftIn other)
           done-one p other a b c (yes y) = earlier-stands r p other now (rowNumbered fixed struck n total r now) y l b c (d rule q .numbered .before) (u .done p other y b c)
           done-one p other a b c (no y) =
@@ -108,6 +117,7 @@ module _ (book fixed nums marks : List ℕ) (total : ℕ) (path : OnPath) (n : �
       (record {
         grown = u .grown;
         later = λ o a. u .later o (omega arith);
+        apart = u .apart;
         most = u .most;
         done = λ p other a b c. done-one p other a b c (decLe (suc p) r);
         used = λ a. used-one a (decLe (suc (e .row)) r);
@@ -134,3 +144,12 @@ module _ (book fixed nums marks : List ℕ) (total : ℕ) (path : OnPath) (n : �
 
   pub all-numbered : Upto 64 (rowsNumbered fixed struck n total 0 64 nums)
   all-numbered = upto-all 64 0 nums refl upto-none
+
+  -- a row that is struck has the numbers it had
+  pub all-apart : Apart (ofFreeRow struck 0) nums (rowsNumbered fixed struck n total 0 64 nums)
+  all-apart k e = go (ltb k 0) refl (ltb k (0 + 4096)) refl e
+    where
+      go : (a : Bool) → ltb k 0 ≡ a → (b : Bool) → ltb k (0 + 4096) ≡ b → pick a false (pick b (isFree struck (rowOf 0 k)) false) ≡ false → getD (rowsNumbered fixed struck n total 0 64 nums) k 0 ≡ getD nums k 0
+      go true p b q f = absurd (omega (arith, ltb-true k 0 p))
+      go false p true q f = all-numbered .apart k f
+      go false p false q f = all-numbered .later k (omega (arith, ltb-false k (0 + 4096) q))

@@ -8,12 +8,12 @@ use Prim.Native.Nat.{ℕ, zero, suc, _+_, _-_, _*_, _/_, _%_, _≤_, _<_}
 use native.Mathlib.Omega.{arith}
 use lib.Dec.{eqb, ltb}
 use lib.ListN.{length, getD, set, length-set, length-append}
-use lib.Seq.{getD-set-same}
-use borrow.Author.Tests.{eqb-true, eq-eqb, ne-eqb, lt-ltb, le-ltb}
+use lib.Seq.{getD-set-same, getD-set-other}
+use borrow.Author.Tests.{eqb-true, eq-eqb, ne-eqb, ltb-true, lt-ltb, le-ltb}
 use Rattle.term.specs.Word.{word, pick, countOf}
 use Rattle.fit.specs.Match.{leftIn}
 use Rattle.tree.specs.Compile.{entering, holding}
-use Rattle.compiler.specs.told.Tables.{Changed, unmarked, forgotten, isFree, struckRows, firstRow, headWord, hasOther, isOther, isHeadWord, countHeads, firstConstraint, struckSame, strikes, rowHas, rowsNumbered, sizeAt, idsAt, occurrenceWords, variableSpot, firstSpot, leafFrom, leafWords, sameWordsOf, frontWords}
+use Rattle.compiler.specs.told.Tables.{Changed, onlyAt, unmarked, forgotten, isFree, isRow, rowOf, ofFreeRow, kindFrom, struckRows, firstRow, headWord, hasOther, isOther, isHeadWord, countHeads, firstConstraint, struckSame, strikes, rowHas, rowsNumbered, sizeAt, idsAt, occurrenceWords, variableSpot, firstSpot, leafFrom, leafWords, sameWordsOf, frontWords}
 use Rattle.compiler.specs.told.Stands.{TreeReady}
 use Rattle.compiler.specs.told.NodeTold.{leftInRows, SwitchReady, TestReady, CasesReady, HeadOfCase}
 use Rattle.tree.proofs.Laws.{open-at}
@@ -21,7 +21,7 @@ use Rattle.compiler.proofs.WordLaws.{length-ids}
 use Rattle.compiler.proofs.SpotHeads.{headOr}
 use Rattle.compiler.proofs.Strikes.{row-head, head-kinds}
 use Rattle.compiler.proofs.StruckRows.{struck-later, struck-stands}
-use Rattle.compiler.proofs.Restores.{Marked, marked-join, rows-marked, same-marked, set-marked, marked-below, unmark-restores, forget-restores}
+use Rattle.compiler.proofs.Restores.{Marked, marked-join, rows-marked, same-marked, set-marked, marked-below, rows-apart, same-apart, set-back, unmark-restores, forget-restores}
 use Rattle.compiler.proofs.NewHeads.{heads-few, heads-counted, new-head-row}
 use Rattle.compiler.proofs.LeftFalls.{case-falls, default-falls, yes-falls, no-falls}
 use Rattle.compiler.proofs.ToldNodes.{first-row, lowest-open, first-test}
@@ -95,6 +95,14 @@ struck-own fixed nums marks id m after c l h f e = c id ∙ go (ltb id 8256) ref
     go : (b : Bool) → ltb id 8256 ≡ b → struckSame fixed nums marks id m id (getD marks id 0) ≡ m
     go b q = let k = kind (ltb id 8256) refl in rw (k .0, k .1, f, e)
 
+-- a mark that is no row's changes no row
+rows-of-set : (l : List ℕ) (n m k : ℕ) → ofFreeRow (set l (64 + n) m) 0 k ≡ ofFreeRow l 0 k
+rows-of-set l n m k = go (ltb k (0 + 4096)) refl
+  where
+    go : (b : Bool) → ltb k (0 + 4096) ≡ b → pick (ltb k 0) false (pick b (isFree (set l (64 + n) m) (rowOf 0 k)) false) ≡ pick (ltb k 0) false (pick b (isFree l (rowOf 0 k)) false)
+    go true q = rw (getD-set-other l (64 + n) (rowOf 0 k) m 0 (λ e. omega (arith, e, ltb-true k (0 + 4096) q)))
+    go false q = refl
+
 -- ---- a test
 module _ (fixed nums marks : List ℕ) (limit count at id : ℕ) (t : TestReady fixed nums marks limit count at id) where
   abbrev ready : TreeReady fixed nums marks limit count at
@@ -142,8 +150,9 @@ module _ (fixed nums marks : List ℕ) (limit count at id : ℕ) (t : TestReady 
           own-strikes : strikes fixed nums marks id id ≡ true
           own-strikes = rw (t .is) (first-one .own .0)
 
-      pub yes-restored : (after last : List ℕ) → after ≡ struck → length last ≡ length after → Changed (unmarked m) after last → last ≡ marks
-      yes-restored after last e l c = unmark-restores m marks struck last below yes-marked (l ∙ ap length e) (rw e at c)
+      pub yes-restored : (after last : List ℕ) → after ≡ struck → length last ≡ length after → Changed (onlyAt (ofFreeRow after (kindFrom id)) (unmarked m)) after last → last ≡ marks
+      yes-restored after last e l c =
+          unmark-restores (ofFreeRow struck (kindFrom id)) m marks struck last below yes-marked (same-apart fixed nums marks id m struck changed) (l ∙ ap length e) (rw e at c)
 
     module _ (dropped : List ℕ) (size : length dropped ≡ length marks) (changed : Changed (struckRows (rowHas fixed nums marks id) m) marks dropped) where
       no-marked : Marked m marks dropped
@@ -171,8 +180,8 @@ module _ (fixed nums marks : List ℕ) (limit count at id : ℕ) (t : TestReady 
           own-row : rowHas fixed nums marks id (firstRow marks) ≡ true
           own-row = rw (t .is) (first-one .own-row)
 
-      pub no-restored : (after last : List ℕ) → after ≡ dropped → length last ≡ length after → Changed (unmarked m) after last → last ≡ marks
-      no-restored after last e l c = unmark-restores m marks dropped last below no-marked (l ∙ ap length e) (rw e at c)
+      pub no-restored : (after last : List ℕ) → after ≡ dropped → length last ≡ length after → Changed (onlyAt isRow (unmarked m)) after last → last ≡ marks
+      no-restored after last e l c = unmark-restores isRow m marks dropped last below no-marked (rows-apart (rowHas fixed nums marks id) m marks dropped changed) (l ∙ ap length e) (rw e at c)
 
 -- ---- a Switch
 module _ (fixed nums marks : List ℕ) (limit count at n : ℕ) (t : SwitchReady fixed nums marks limit count at n) where
@@ -245,8 +254,9 @@ module _ (fixed nums marks : List ℕ) (limit count at n : ℕ) (t : SwitchReady
               go true q = q
               go false q = refl
 
-      pub default-restored : (after last : List ℕ) → after ≡ dropped → length last ≡ length after → Changed (unmarked m) after last → last ≡ marks
-      default-restored after last e l c = unmark-restores m marks dropped last switch-below default-marked (l ∙ ap length e) (rw e at c)
+      pub default-restored : (after last : List ℕ) → after ≡ dropped → length last ≡ length after → Changed (onlyAt isRow (unmarked m)) after last → last ≡ marks
+      default-restored after last e l c =
+          unmark-restores isRow m marks dropped last switch-below default-marked (rows-apart (hasOther fixed nums n 33554432) m marks dropped changed) (l ∙ ap length e) (rw e at c)
 
 -- ---- a case
 module _ (fixed nums marks : List ℕ) (limit count at m n w : ℕ) (t : CasesReady fixed nums marks limit count at m n) (of-row : HeadOfCase fixed nums marks n w) where
@@ -263,10 +273,14 @@ module _ (fixed nums marks : List ℕ) (limit count at m n w : ℕ) (t : CasesRe
     place-within : 64 + n < length struck
     place-within = omega (arith, t .known, case-places, size, t .sizes .2)
 
+    place-open : getD struck (64 + n) 0 ≡ 0
+    place-open = struck-later (hasOther fixed nums n w) m marks struck changed (64 + n) (omega arith) ∙ eqb-true (getD marks (64 + n) 0) 0 (t .unmarked-place)
+
+    rows-struck : Marked m marks struck
+    rows-struck = rows-marked (hasOther fixed nums n w) m marks struck size changed
+
     case-marked : Marked m marks (set struck (64 + n) m)
-    case-marked =
-        marked-join m marks struck (set struck (64 + n) m) (rows-marked (hasOther fixed nums n w) m marks struck size changed)
-        (set-marked m struck (64 + n) place-within (struck-later (hasOther fixed nums n w) m marks struck changed (64 + n) (omega arith) ∙ eqb-true (getD marks (64 + n) 0) 0 (t .unmarked-place)))
+    case-marked = marked-join m marks struck (set struck (64 + n) m) rows-struck (set-marked m struck (64 + n) place-within place-open)
 
     pub case-ready : TreeReady fixed (rowsNumbered fixed struck n count 0 64 nums) (set struck (64 + n) m) limit (count + countOf w) at
     case-ready =
@@ -285,8 +299,13 @@ module _ (fixed nums marks : List ℕ) (limit count at m n w : ℕ) (t : CasesRe
         case-falls fixed nums marks (set struck (64 + n) m) m case-real case-marked (rowsNumbered fixed struck n count 0 64 nums) count (of-row .row) n (the-case .grown) (of-row .within) (h .0)
         (ap isHeadWord (h .1 ∙ sym (of-row .is)) ∙ of-row .head) (t .unmarked-place) (getD-set-same struck (64 + n) m 0 place-within)
 
-    pub case-marks-restored : (after last : List ℕ) → after ≡ set struck (64 + n) m → length last ≡ length after → Changed (unmarked m) after last → last ≡ marks
-    case-marks-restored after last e l c = unmark-restores m marks (set struck (64 + n) m) last (t .older) case-marked (l ∙ ap length e) (rw e at c)
+    pub case-marks-restored : (after last : List ℕ) → after ≡ set struck (64 + n) m → length last ≡ length (set after (64 + n) 0) → Changed (onlyAt isRow (unmarked m)) (set after (64 + n) 0) last → last ≡ marks
+    case-marks-restored after last e l c =
+        let z : set after (64 + n) 0 ≡ struck = ap (λ (x : List ℕ). set x (64 + n) 0) e ∙ set-back struck (64 + n) m place-within place-open in
+        unmark-restores isRow m marks struck last (t .older) rows-struck (rows-apart (hasOther fixed nums n w) m marks struck changed) (l ∙ ap length z) (rw z at c)
 
-    pub case-nums-restored : (after last : List ℕ) → after ≡ rowsNumbered fixed struck n count 0 64 nums → length last ≡ length after → Changed (forgotten count) after last → last ≡ nums
-    case-nums-restored after last e l c = forget-restores count nums (rowsNumbered fixed struck n count 0 64 nums) last (t .stands .most) (the-case .grown) (l ∙ ap length e) (rw e at c)
+    pub case-nums-restored : (after marks-after last : List ℕ) → after ≡ rowsNumbered fixed struck n count 0 64 nums → marks-after ≡ set struck (64 + n) m → length last ≡ length after
+        → Changed (onlyAt (ofFreeRow marks-after 0) (forgotten count)) after last → last ≡ nums
+    case-nums-restored after marks-after last e z l c =
+        forget-restores (ofFreeRow (set struck (64 + n) m) 0) count nums (rowsNumbered fixed struck n count 0 64 nums) last (t .stands .most) (the-case .grown)
+        (λ k q. the-case .apart k (sym (rows-of-set struck n m k) ∙ q)) (l ∙ ap length e) (rw (e, z) at c)

@@ -8,9 +8,10 @@ use native.Mathlib.Omega.{arith}
 use lib.Dec.{eqb, ltb}
 use lib.ListN.{length, getD, set, length-set}
 use lib.Seq.{getD-set-same, getD-set-other}
-use borrow.Author.Tests.{eqb-true, eqb-false, eq-eqb, ne-eqb, lt-ltb, le-ltb}
+use borrow.Author.Tests.{eqb-true, eqb-false, eq-eqb, ne-eqb, ltb-true, ltb-false, lt-ltb, le-ltb}
 use Rattle.term.specs.Word.{pick}
-use Rattle.compiler.specs.told.Tables.{Changed, unmarked, forgotten, struckRows, struckSame, strikes, kindFrom}
+use Rattle.compiler.specs.told.Tables.{Changed, onlyAt, unmarked, forgotten, isFree, isRow, rowOf, ofFreeRow, struckRows, struckSame, strikes, kindFrom}
+use Rattle.compiler.proofs.TableLaws.{kind-within, before-kind, after-kind, same-row-struck}
 
 -- lists of one length with the same words are the same
 pub same-words-same : (a b : List ℕ) → length a ≡ length b → ((k : ℕ) → getD a k 0 ≡ getD b k 0) → a ≡ b
@@ -86,14 +87,54 @@ marked-below m n before after b p h k = go (getD before k 0) (getD after k 0) (b
     go x y l (inl e) = omega arith
     go x y l (inr e) = omega (arith, e .1)
 
--- THE LAW of marks: taking the node's mark away leaves the marks as they were
-pub unmark-restores : (m : ℕ) (before after last : List ℕ) → Below m before → Marked m before after → length last ≡ length after → Changed (unmarked m) after last → last ≡ before
+-- what a test does not pick is as it was
+abbrev pub Apart : (ℕ → Bool) → List ℕ → List ℕ → Type 0
+Apart p before after = (k : ℕ) → p k ≡ false → getD after k 0 ≡ getD before k 0
+
+pub rows-apart : (p : ℕ → Bool) (m : ℕ) (before after : List ℕ) → Changed (struckRows p m) before after → Apart isRow before after
 unfolding Changed
-unmark-restores m before after last b p l c = same-words-same last before (l ∙ p .long) (λ k. c k ∙ go (getD before k 0) (getD after k 0) (b k) (p .each k))
+rows-apart p m before after c k e = c k ∙ ap (λ (b : Bool). pick b (pick (eqb (getD before k 0) 0 && p k) m (getD before k 0)) (getD before k 0)) e
+
+same-there : (fixed nums marks after : List ℕ) (id m k : ℕ) → getD after (rowOf (kindFrom id) k) 0 ≡ struckSame fixed nums marks id m (rowOf (kindFrom id) k) (getD marks (rowOf (kindFrom id) k) 0)
+    → ofFreeRow after (kindFrom id) k ≡ false → struckSame fixed nums marks id m k (getD marks k 0) ≡ getD marks k 0
+same-there fixed nums marks after id m k row e = go (ltb k (kindFrom id)) refl (ltb k (kindFrom id + 4096)) refl e
   where
-    go : (x y : ℕ) → x < m → MarkedAt m x y → pick (eqb y m) 0 y ≡ x
-    go x y h (inl e) = rw (e, ne-eqb x m (omega arith))
-    go x y h (inr e) = rw (e .1, eq-eqb m m refl) (sym (e .0))
+    go : (a : Bool) → ltb k (kindFrom id) ≡ a → (b : Bool) → ltb k (kindFrom id + 4096) ≡ b → pick a false (pick b (isFree after (rowOf (kindFrom id) k)) false) ≡ false
+        → struckSame fixed nums marks id m k (getD marks k 0) ≡ getD marks k 0
+    go true p b q f = before-kind fixed nums marks id m k (getD marks k 0) (ltb-true k (kindFrom id) p)
+    go false p false q f = after-kind fixed nums marks id m k (getD marks k 0) (ltb-false k (kindFrom id + 4096) q)
+    go false p true q f =
+        let h = ltb-true k (kindFrom id + 4096) q in
+        let same : getD after (rowOf (kindFrom id) k) 0 ≡ getD marks (rowOf (kindFrom id) k) 0 =
+        row ∙ before-kind fixed nums marks id m (rowOf (kindFrom id) k) (getD marks (rowOf (kindFrom id) k) 0) (omega (arith, h, kind-within id .0)) in
+        sym (same-row-struck fixed nums marks id m (rowOf (kindFrom id) k) k (getD marks k 0) (ltb-false k (kindFrom id) p) h refl (λ z. eqb-false (getD after (rowOf (kindFrom id) k) 0) 0 f (same ∙ z)))
+
+-- the constraints of the rows that are not struck alone are struck
+pub same-apart : (fixed nums marks : List ℕ) (id m : ℕ) (after : List ℕ) → Changed (struckSame fixed nums marks id m) marks after → Apart (ofFreeRow after (kindFrom id)) marks after
+unfolding Changed
+same-apart fixed nums marks id m after c k e = c k ∙ same-there fixed nums marks after id m k (c (rowOf (kindFrom id) k)) e
+
+-- leaving a place that was open before it was entered
+pub set-back : (l : List ℕ) (i m : ℕ) → i < length l → getD l i 0 ≡ 0 → set (set l i m) i 0 ≡ l
+set-back l i m h e = same-words-same (set (set l i m) i 0) l (length-set (set l i m) i 0 ∙ length-set l i m) (λ k. go k (eqb k i) refl)
+  where
+    go : (k : ℕ) (b : Bool) → eqb k i ≡ b → getD (set (set l i m) i 0) k 0 ≡ getD l k 0
+    go k true q = rw (eqb-true k i q) (getD-set-same (set l i m) i 0 0 (omega (arith, length-set l i m)) ∙ sym e)
+    go k false q = getD-set-other (set l i m) i k 0 0 (eqb-false k i q) ∙ getD-set-other l i k m 0 (eqb-false k i q)
+
+-- THE LAW of marks: taking the node's mark away where it set one leaves the marks as they were
+pub unmark-restores : (p : ℕ → Bool) (m : ℕ) (before after last : List ℕ) → Below m before → Marked m before after → Apart p before after → length last ≡ length after → Changed (onlyAt p (unmarked m)) after last
+    → last ≡ before
+unfolding Changed
+unmark-restores p m before after last b q a l c = same-words-same last before (l ∙ q .long) (λ k. c k ∙ go k (p k) refl)
+  where
+    back : (x y : ℕ) → x < m → MarkedAt m x y → pick (eqb y m) 0 y ≡ x
+    back x y h (inl e) = rw (e, ne-eqb x m (omega arith))
+    back x y h (inr e) = rw (e .1, eq-eqb m m refl) (sym (e .0))
+
+    go : (k : ℕ) (t : Bool) → p k ≡ t → pick t (pick (eqb (getD after k 0) m) 0 (getD after k 0)) (getD after k 0) ≡ getD before k 0
+    go k true e = back (getD before k 0) (getD after k 0) (b k) (q .each k)
+    go k false e = a k e
 
 -- ---- numbers: those that were given here are over the count
 abbrev pub AtMost : ℕ → List ℕ → Type 0
@@ -125,11 +166,16 @@ set-grown count l i v h e c = record { long = length-set l i v; each = λ k. go 
     go k true q = rw (eqb-true k i q) (inr (e, omega (arith, getD-set-same l i v 0 h)))
     go k false q = inl (getD-set-other l i k v 0 (eqb-false k i q))
 
--- THE LAW of numbers: forgetting those over the count leaves the numbers as they were
-pub forget-restores : (count : ℕ) (before after last : List ℕ) → AtMost count before → Grown count before after → length last ≡ length after → Changed (forgotten count) after last → last ≡ before
+-- THE LAW of numbers: forgetting those over the count where some were given leaves the numbers as they were
+pub forget-restores : (p : ℕ → Bool) (count : ℕ) (before after last : List ℕ) → AtMost count before → Grown count before after → Apart p before after → length last ≡ length after
+    → Changed (onlyAt p (forgotten count)) after last → last ≡ before
 unfolding Changed
-forget-restores count before after last b p l c = same-words-same last before (l ∙ p .long) (λ k. c k ∙ go (getD before k 0) (getD after k 0) (b k) (p .each k))
+forget-restores p count before after last b q a l c = same-words-same last before (l ∙ q .long) (λ k. c k ∙ go k (p k) refl)
   where
-    go : (x y : ℕ) → x ≤ count → GrownAt count x y → pick (ltb count y) 0 y ≡ x
-    go x y h (inl e) = rw (e, le-ltb count x h)
-    go x y h (inr e) = rw (lt-ltb count y (e .1)) (sym (e .0))
+    back : (x y : ℕ) → x ≤ count → GrownAt count x y → pick (ltb count y) 0 y ≡ x
+    back x y h (inl e) = rw (e, le-ltb count x h)
+    back x y h (inr e) = rw (lt-ltb count y (e .1)) (sym (e .0))
+
+    go : (k : ℕ) (t : Bool) → p k ≡ t → pick t (pick (ltb count (getD after k 0)) 0 (getD after k 0)) (getD after k 0) ≡ getD before k 0
+    go k true e = back (getD before k 0) (getD after k 0) (b k) (q .each k)
+    go k false e = a k e

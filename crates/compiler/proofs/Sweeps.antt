@@ -140,6 +140,24 @@ sweep-keep f before after i s e = record { long = s .long; changed = λ k. go k 
     go k true q = rw (eqb-true k i q) (sweep-here f before after i s i (omega arith) ∙ sym (last-point f before i ∙ e))
     go k false q = s .changed k ∙ sweep-point f before i k (eqb-false k i q)
 
+-- words that stay as they are may be passed over
+pub sweep-skip : (f : ℕ → ℕ → ℕ) (before after : List ℕ) (i j : ℕ) → Sweeping f before after i → i ≤ j → ((k : ℕ) → i ≤ k → k < j → f k (getD before k 0) ≡ getD before k 0) → Sweeping f before after j
+sweep-skip f before after i j s h e = record { long = s .long; changed = λ k. go k (ltb k i) refl (ltb k j) refl }
+  where
+    go : (k : ℕ) (a : Bool) → ltb k i ≡ a → (b : Bool) → ltb k j ≡ b → getD after k 0 ≡ pick b (f k (getD before k 0)) (getD before k 0)
+    go k true p true q = s .changed k ∙ ap (λ (b : Bool). pick b (f k (getD before k 0)) (getD before k 0)) p
+    go k true p false q = absurd (omega (arith, ltb-true k i p, ltb-false k j q, h))
+    go k false p true q = sweep-here f before after i s k (ltb-false k i p) ∙ sym (e k (ltb-false k i p) (ltb-true k j q))
+    go k false p false q = sweep-here f before after i s k (ltb-false k i p)
+
+-- and are so all the while
+pub sweep-fixed : (f : ℕ → ℕ → ℕ) (before after : List ℕ) (i k : ℕ) → Sweeping f before after i → f k (getD before k 0) ≡ getD before k 0 → getD after k 0 ≡ getD before k 0
+sweep-fixed f before after i k s e = s .changed k ∙ go (ltb k i)
+  where
+    go : (b : Bool) → pick b (f k (getD before k 0)) (getD before k 0) ≡ getD before k 0
+    go true = e
+    go false = refl
+
 pub sweep-end : (f : ℕ → ℕ → ℕ) (before after : List ℕ) (i : ℕ) → Sweeping f before after i → ((k : ℕ) → i ≤ k → f k (getD before k 0) ≡ getD before k 0) → Changed f before after
 unfolding Changed
 sweep-end f before after i s e k = s .changed k ∙ go (ltb k i) refl

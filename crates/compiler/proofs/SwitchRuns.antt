@@ -9,7 +9,7 @@ use lib.ListN.{length, getD, set}
 use Rattle.term.specs.declared.renumber.Passed.{Passed}
 use Rattle.term.specs.declared.renumber.Passed.the-variants.{Done, Stuck}
 use Rattle.term.specs.Word.{countOf}
-use Rattle.compiler.specs.told.Tables.{Changed, unmarked, forgotten, struckRows, hasOther, countHeads, rowsNumbered}
+use Rattle.compiler.specs.told.Tables.{Changed, onlyAt, unmarked, forgotten, isRow, ofFreeRow, struckRows, hasOther, countHeads, rowsNumbered}
 use Rattle.compiler.specs.told.Stands.{TreeReady, TreeKept, TreeTold}
 use Rattle.compiler.specs.told.NodeTold.{leftInRows, SwitchReady, CasesReady, HeadOfCase, CaseTold, CasesTold}
 use Rattle.compiler.proofs.ToldCases.{case-told, case-stuck}
@@ -75,7 +75,7 @@ module _ (fixed nums marks : List ℕ) (limit count at n : ℕ) (t : SwitchReady
               default-over book fixed nums marks limit count at out n (t .first) (t .lowest) (at + 4 + 2 * many) from next one two three four p q third (rw is-done at (cases .0 book)) m real dropped drops-entry five five
               (rw (kept .0, e) at (other .0 book))
 
-          pub switch-done : (end : ℕ) → y ≡ Done end → (marks₅ : List ℕ) → length marks₅ ≡ length marks₄ → Changed (unmarked m) marks₄ marks₅ → Subtree fixed nums marks limit count at out five nums₄ marks₅ (Done end)
+          pub switch-done : (end : ℕ) → y ≡ Done end → (marks₅ : List ℕ) → length marks₅ ≡ length marks₄ → Changed (onlyAt isRow (unmarked m)) marks₄ marks₅ → Subtree fixed nums marks limit count at out five nums₄ marks₅ (Done end)
           switch-done end e marks₅ size₅ unmarks₅ =
               let k : (nums₄ ≡ nums₂) × (marks₄ ≡ dropped) × (next ≤ end) × (end ≤ limit + 5000) = rw e at (other .1) in (
                 λ book. switch-told book fixed nums marks limit count at out n (t .first) (t .lowest) (at + 4 + 2 * many) from next one two three four p q third (rw is-done at (cases .0 book)) m real dropped drops-entry end five
@@ -98,10 +98,11 @@ module _ (fixed nums marks : List ℕ) (limit count at m n w : ℕ) (t : CasesRe
     case-over e book =
         case-stuck book fixed nums marks count n w m case-real (t .known) (t .unmarked-place) of-row struck changed (size ∙ t .sizes .2, t .sizes .1, t .sizes .0) limit at out done (rw (numbers, e) at (sub .0 book))
 
-    pub case-done : (next : ℕ) → x ≡ Done next → (nums₄ marks₄ : List ℕ) → length nums₄ ≡ length nums₃ → Changed (forgotten count) nums₃ nums₄ → length marks₄ ≡ length marks₃ → Changed (unmarked m) marks₃ marks₄
+    pub case-done : (next : ℕ) → x ≡ Done next → (nums₄ marks₄ : List ℕ) → length nums₄ ≡ length nums₃ → Changed (onlyAt (ofFreeRow marks₃ 0) (forgotten count)) nums₃ nums₄
+        → length marks₄ ≡ length (set marks₃ (64 + n) 0) → Changed (onlyAt isRow (unmarked m)) (set marks₃ (64 + n) 0) marks₄
         → OneCase fixed nums marks limit count at n w out done nums₄ marks₄ (Done next)
     case-done next e nums₄ marks₄ nums-size forgets marks-size unmarks =
         let k : (nums₃ ≡ nums₂) × (marks₃ ≡ set struck (64 + n) m) × (at ≤ next) × (next ≤ limit + 5000) = rw e at (sub .1) in (
           λ book. case-told book fixed nums marks count n w m case-real (t .known) (t .unmarked-place) of-row struck changed (size ∙ t .sizes .2, t .sizes .1, t .sizes .0) limit at out done next (rw (numbers, e) at (sub .0 book)),
-          (case-nums-restored fixed nums marks limit count at m n w t of-row struck size changed nums₃ nums₄ (k .0 ∙ numbers) nums-size forgets, case-marks-restored fixed nums marks limit count at m n w t of-row struck size changed marks₃ marks₄ (k .1) marks-size unmarks, k .2, k .3),
+          (case-nums-restored fixed nums marks limit count at m n w t of-row struck size changed nums₃ marks₃ nums₄ (k .0 ∙ numbers) (k .1) nums-size forgets, case-marks-restored fixed nums marks limit count at m n w t of-row struck size changed marks₃ marks₄ (k .1) marks-size unmarks, k .2, k .3),
         )

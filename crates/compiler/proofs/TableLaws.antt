@@ -5,24 +5,56 @@ use mathlib.Core.List.{List, [], _∷_}
 use Prim.Native.Nat.{ℕ, zero, suc, _+_, _-_, _*_, _/_, _%_, _≤_, _<_}
 use native.Mathlib.Omega.{arith}
 use lib.Dec.{eqb, ltb}
-use lib.ListN.{length, getD, set, List·getD-eq-default}
+use lib.ListN.{length, getD, set}
 use borrow.Author.Tests.{ltb-true, ltb-false, lt-ltb, le-ltb, eqb-true, eqb-false, eq-eqb, ne-eqb}
 use Rattle.term.specs.Word.{pick, kindOf, countOf, identOf}
 use Rattle.term.proofs.Laws.{never}
-use Rattle.compiler.proofs.Sweeps.{Searching, search-found, search-nowhere, Sweeping, sweep-here, sweep-set}
-use Rattle.compiler.specs.told.Tables.{firstAt, manyAt, unmarked, forgotten, isFree, firstRow, spotIn, spotAt, headKind, headWord, lowerOf, lowestFrom, hasHead, isOther, struckRows, newHead, isHeadWord, countHeads, firstSpot, isVariable, isClosed, isSame, isConstraint, isLeft, firstFrom, firstConstraint, listed, sizeAt, inList, notIn, amongAt, differAt, sameList, sameClosed, sameSame, sameName, kindFrom, leftSame, rowHas, rowOf, strikes, struckSame}
+use Rattle.compiler.proofs.Sweeps.{Searching, search-found, search-nowhere, Sweeping, sweep-here, sweep-set, sweep-skip, sweep-fixed}
+use Rattle.compiler.specs.told.Tables.{firstAt, manyAt, onlyAt, isRow, ofFreeRow, unmarked, isFree, firstRow, spotIn, spotAt, headKind, headWord, lowerOf, lowestFrom, hasHead, isOther, struckRows, newHead, isHeadWord, countHeads, firstSpot, isVariable, isClosed, isSame, isConstraint, isLeft, firstFrom, firstConstraint, listed, sizeAt, inList, notIn, amongAt, differAt, sameList, sameClosed, sameSame, sameName, kindFrom, leftSame, rowHas, rowOf, strikes, struckSame}
 use Rattle.tree.proofs.Laws.{and-assoc, and-false}
 
 picked-same : (b : Bool) (x : ℕ) → pick b x x ≡ x
 picked-same true x = refl
 picked-same false x = refl
 
--- past a table's end nothing is changed
-pub none-unmarked : (mark : ℕ) (l : List ℕ) (k : ℕ) → length l ≤ k → unmarked mark k (getD l k 0) ≡ getD l k 0
-none-unmarked mark l k h = rw (List·getD-eq-default l 0 {n = k} h) (picked-same (eqb 0 mark) 0)
+-- ---- a sweep over the rows
+pub row-only : (f : ℕ → ℕ → ℕ) (k x : ℕ) → k < 64 → f k x ≡ onlyAt isRow f k x
+row-only f k x h = sym (ap (λ (b : Bool). pick b (f k x) x) (lt-ltb k 64 h))
 
-pub none-forgotten : (count : ℕ) (l : List ℕ) (k : ℕ) → length l ≤ k → forgotten count k (getD l k 0) ≡ getD l k 0
-none-forgotten count l k h = rw (List·getD-eq-default l 0 {n = k} h) (picked-same (ltb count 0) 0)
+pub past-only : (f : ℕ → ℕ → ℕ) (k x : ℕ) → 64 ≤ k → onlyAt isRow f k x ≡ x
+past-only f k x h = ap (λ (b : Bool). pick b (f k x) x) (le-ltb k 64 h)
+
+-- ---- a sweep over the words of the rows that are not struck
+module _ (marks : List ℕ) (from : ℕ) (f : ℕ → ℕ → ℕ) where
+  pub before-rows : (k x : ℕ) → k < from → onlyAt (ofFreeRow marks from) f k x ≡ x
+  before-rows k x h = rw (lt-ltb k from h)
+
+  pub after-rows : (k x : ℕ) → from + 4096 ≤ k → onlyAt (ofFreeRow marks from) f k x ≡ x
+  after-rows k x h = rw (le-ltb k from (omega arith), le-ltb k (from + 4096) h)
+
+  in-row : (k x : ℕ) (b : Bool) → from ≤ k → k < from + 4096 → isFree marks (rowOf from k) ≡ b → onlyAt (ofFreeRow marks from) f k x ≡ pick b (f k x) x
+  in-row k x b l h e = rw (le-ltb k from l, lt-ltb k (from + 4096) h, e)
+
+  module _ (before after : List ℕ) (i : ℕ) (few : i < 4096) (s : Sweeping (onlyAt (ofFreeRow marks from) f) before after (from + i)) where
+    -- a word of a row that is not struck is changed
+    pub free-step : getD marks (i / 64) 0 ≡ 0 → (k : ℕ) → k ≡ from + i → k < length after → (x : ℕ) → x ≡ f k (getD after k 0)
+        → Sweeping (onlyAt (ofFreeRow marks from) f) before (set after k x) (from + (i + 1))
+    free-step free k eq h x e =
+        let y : from + i + 1 ≡ from + (i + 1) = omega arith in
+        let row : rowOf from k ≡ i / 64 = omega (arith, eq) in
+        let z : x ≡ onlyAt (ofFreeRow marks from) f k (getD before k 0) =
+        e ∙ ap (f k) (sweep-here (onlyAt (ofFreeRow marks from) f) before after (from + i) s k (omega (arith, eq)))
+        ∙ sym (in-row k (getD before k 0) true (omega (arith, eq)) (omega (arith, eq)) (ap (isFree marks) row ∙ eq-eqb (getD marks (i / 64) 0) 0 free)) in
+        rw (← y, eq) (sweep-set (onlyAt (ofFreeRow marks from) f) before after (from + i) x s (omega (arith, eq)) (rw eq at z))
+
+    -- and a row that is struck is passed over
+    pub free-skip : (getD marks (i / 64) 0 ≡ 0 → ⊥) → (j : ℕ) → j ≡ i / 64 * 64 + 64 → Sweeping (onlyAt (ofFreeRow marks from) f) before after (from + j)
+    free-skip struck j eq = sweep-skip (onlyAt (ofFreeRow marks from) f) before after (from + i) (from + j) s (omega (arith, eq)) kept
+      where
+        kept : (k : ℕ) → from + i ≤ k → k < from + j → onlyAt (ofFreeRow marks from) f k (getD before k 0) ≡ getD before k 0
+        kept k a b =
+            let row : rowOf from k ≡ i / 64 = omega (arith, eq) in
+            in-row k (getD before k 0) false (omega arith) (omega (arith, eq)) (ap (isFree marks) row ∙ ne-eqb (getD marks (i / 64) 0) 0 struck)
 
 pub row-is : (marks : List ℕ) (r : ℕ) → firstAt (isFree marks) 0 64 ≡ r → r ≡ firstRow marks
 unfolding firstRow
@@ -477,3 +509,28 @@ struck-step fixed nums before after id mark i from z h s l x e =
     rows-kept : (fixed nums before : List ℕ) (id mark i r : ℕ) → r < kindFrom id
         → pick (ltb r (kindFrom id + i)) (struckSame fixed nums before id mark r (getD before r 0)) (getD before r 0) ≡ getD before r 0
     rows-kept fixed nums before id mark i r h = ap (λ (u : ℕ). pick (ltb r (kindFrom id + i)) u (getD before r 0)) (before-kind fixed nums before id mark r (getD before r 0) h) ∙ picked-same (ltb r (kindFrom id + i)) (getD before r 0)
+
+-- a struck row's constraints are passed over
+pub struck-skip : (fixed nums before after : List ℕ) (id mark i : ℕ) → i < 4096 → Sweeping (struckSame fixed nums before id mark) before after (kindFrom id + i) → (getD after (i / 64) 0 ≡ 0 → ⊥)
+    → (j : ℕ) → j ≡ i / 64 * 64 + 64 → Sweeping (struckSame fixed nums before id mark) before after (kindFrom id + j)
+struck-skip fixed nums before after id mark i h s struck j eq =
+    sweep-skip (struckSame fixed nums before id mark) before after (kindFrom id + i) (kindFrom id + j) s (omega (arith, eq))
+    (λ k a b. sym (same-row-struck fixed nums before id mark (i / 64) k (getD before k 0) (omega arith) (omega (arith, eq)) (omega (arith, eq)) was))
+  where
+    same : getD after (i / 64) 0 ≡ getD before (i / 64) 0
+    same =
+        sweep-fixed (struckSame fixed nums before id mark) before after (kindFrom id + i) (i / 64) s (before-kind fixed nums before id mark (i / 64) (getD before (i / 64) 0) (omega (arith, kind-within id .0)))
+
+    was : getD before (i / 64) 0 ≡ 0 → ⊥
+    was e = struck (same ∙ e)
+
+-- a constraint is of the row that its spot is of
+pub of-row-free : (marks : List ℕ) (from id i : ℕ) → from ≡ kindFrom id → getD marks (i / 64) 0 ≡ 0 → getD marks (rowOf (kindFrom id) (from + i)) 0 ≡ 0
+of-row-free marks from id i e z =
+    let w : rowOf (kindFrom id) (from + i) ≡ i / 64 = omega (arith, e) in
+    ap (λ (r : ℕ). getD marks r 0) w ∙ z
+
+-- the rows are as they were while marks are taken away from constraints
+pub rows-stay : (marks : List ℕ) (from mark : ℕ) (after : List ℕ) (i r : ℕ) → Sweeping (onlyAt (ofFreeRow marks from) (unmarked mark)) marks after (from + i) → r < from → getD after r 0 ≡ getD marks r 0
+rows-stay marks from mark after i r s h =
+    sweep-fixed (onlyAt (ofFreeRow marks from) (unmarked mark)) marks after (from + i) r s (before-rows marks from (unmarked mark) r (getD marks r 0) h)

@@ -7,7 +7,7 @@ use lib.ListN.{length, getD, set}
 use lib.Seq.{sets}
 use Rattle.term.specs.declared.renumber.Passed.{Passed}
 use Rattle.term.specs.declared.renumber.Passed.the-variants.{Done, Stuck}
-use Rattle.compiler.specs.told.Tables.{Changed, unmarked, struckRows, struckSame, rowHas, frontWords}
+use Rattle.compiler.specs.told.Tables.{Changed, onlyAt, unmarked, isRow, ofFreeRow, kindFrom, struckRows, struckSame, rowHas, frontWords}
 use Rattle.compiler.specs.told.Stands.{TreeReady, TreeKept, TreeTold}
 use Rattle.compiler.specs.told.NodeTold.{leftInRows, TestReady}
 use Rattle.compiler.proofs.ToldNodes.{yes-stuck, no-stuck, test-told}
@@ -38,7 +38,7 @@ module _ (fixed nums marks : List ℕ) (limit count at id : ℕ) (t : TestReady 
       pub yes-over : x ≡ Stuck → (book : List ℕ) → TreeTold book fixed nums marks limit count at out three Stuck
       yes-over e book = yes-stuck book fixed nums marks limit count at out (t .first) (t .none-open) id (t .is) (t .some-left) m real struck strikes two three three (rw e at (at-front book))
 
-      module _ (next : ℕ) (is-done : x ≡ Done next) (marks₃ : List ℕ) (size₃ : length marks₃ ≡ length marks₂) (unmarks : Changed (unmarked m) marks₂ marks₃) where
+      module _ (next : ℕ) (is-done : x ≡ Done next) (marks₃ : List ℕ) (size₃ : length marks₃ ≡ length marks₂) (unmarks : Changed (onlyAt (ofFreeRow marks₂ (kindFrom id)) (unmarked m)) marks₂ marks₃) where
         kept : (nums₂ ≡ nums) × (marks₂ ≡ struck) × (slot + 2 ≤ next) × (next ≤ limit + 5000)
         kept = rw is-done at (yes .1)
 
@@ -75,7 +75,7 @@ module _ (fixed nums marks : List ℕ) (limit count at id : ℕ) (t : TestReady 
                 no-stuck book fixed nums marks limit count at out (t .first) (t .none-open) id (t .is) (t .some-left) m real struck strikes next two three four second-is (rw is-done at (at-front book)) fourth-is dropped drops-entry five five
                 (rw (nums-back, e) at (no .0 book))
 
-            pub test-done : (end : ℕ) → y ≡ Done end → (marks₅ : List ℕ) → length marks₅ ≡ length marks₄ → Changed (unmarked m) marks₄ marks₅ → Subtree fixed nums marks limit count at out five nums₄ marks₅ (Done end)
+            pub test-done : (end : ℕ) → y ≡ Done end → (marks₅ : List ℕ) → length marks₅ ≡ length marks₄ → Changed (onlyAt isRow (unmarked m)) marks₄ marks₅ → Subtree fixed nums marks limit count at out five nums₄ marks₅ (Done end)
             test-done end e marks₅ size₅ unmarks₅ =
                 let k : (nums₄ ≡ nums₂) × (marks₄ ≡ dropped) × (next ≤ end) × (end ≤ limit + 5000) = rw e at (no .1) in (
                   λ book. test-told book fixed nums marks limit count at out (t .first) (t .none-open) id (t .is) (t .some-left) m real struck strikes next two three four second-is (rw is-done at (at-front book)) fourth-is dropped drops-entry end five

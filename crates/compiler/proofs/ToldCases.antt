@@ -23,11 +23,11 @@ use Rattle.tree.specs.Path.{OnPath, placeNumbered}
 use Rattle.tree.specs.Rows.{headAt}
 use Rattle.tree.specs.Compile.{heads, caseRows, entering, casesOf, compile}
 use Rattle.tree.specs.Layout.{caseCount, long, longCases, caseHeads, layout, layoutCases}
-use Rattle.compiler.specs.told.Tables.{Changed, isFree, struckRows, hasOther, newHead, isHeadWord, countHeads, rowsNumbered}
+use Rattle.compiler.specs.told.Tables.{Changed, isFree, ofFreeRow, struckRows, hasOther, newHead, isHeadWord, countHeads, rowsNumbered}
 use Rattle.compiler.specs.told.Stands.{rowIf, rowsLeft, Stands, TreeTold}
 use Rattle.compiler.specs.told.NodeTold.{HeadOfCase, caseTree, CaseTold, CasesTold}
 use Rattle.tree.proofs.Laws.{length-heads, length-layout, tables-none, tables-row, cases-of-none, cases-of-more, count-cases-of, no-case, one-case, head-headed, Full, full-at, good-full, InTables, same-head}
-use Rattle.compiler.proofs.Restores.{Grown}
+use Rattle.compiler.proofs.Restores.{Grown, Apart}
 use Rattle.compiler.proofs.Strikes.{case-left}
 use Rattle.compiler.proofs.NewHeads.{headsFrom, headWords, heads-end, heads-step, heads-skip, heads-counted, new-heads, new-head-is}
 use Rattle.compiler.proofs.NodeWords.{case-words}
@@ -70,6 +70,7 @@ module _ (book fixed nums marks : List ℕ) (count n w m : ℕ) (real : m ≡ 0 
     pub stands : Stands book fixed (rowsNumbered fixed struck n count 0 64 nums) (set struck (64 + n) m) (count + countOf w) (entering n head path)
     pub rows : rowsLeft book (set struck (64 + n) m) 0 64 ≡ caseRows (placeNumbered n (path .uncovered)) head (rowsLeft book marks 0 64)
     pub grown : Grown count nums (rowsNumbered fixed struck n count 0 64 nums)
+    pub apart : Apart (ofFreeRow struck 0) nums (rowsNumbered fixed struck n count 0 64 nums)
 
   strikes-head : (h : Head) → word h ≡ w → Changed (struckRows (hasOther fixed nums n (word h)) m) marks struck
   strikes-head h e = rw e strikes
@@ -87,13 +88,15 @@ module _ (book fixed nums marks : List ℕ) (count n w m : ℕ) (real : m ≡ 0 
       found r l rule h f q there e t =
           let o = sym (s .opened n known) ∙ free in
           let c = strikes-head h e in
+          let g = entered-grown book fixed nums marks count path s n known o h r rule l f q there m real struck c (sizes .0) (sizes .1) (sizes .2) in
           record {
             head = h;
             good = t;
             words = e;
             stands = rw (counted h t e) at (entered-stands book fixed nums marks count path s n known o h r rule l f q there m real struck c (sizes .0) (sizes .1) (sizes .2));
             rows = rows-set book struck n m 64 0 (omega arith) ∙ case-left book fixed nums marks count path s n known h m struck real c;
-            grown = entered-grown book fixed nums marks count path s n known o h r rule l f q there m real struck c (sizes .0) (sizes .1) (sizes .2);
+            grown = g .0;
+            apart = g .1;
           }
 
   module _ (limit at : ℕ) (out done : List ℕ) where

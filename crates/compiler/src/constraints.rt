@@ -3,12 +3,14 @@ ghost use mathlib.Core.Path.{_≡_};
 ghost use Prim.Native.Nat.{ℕ, _+_, _*_, _≤_, _<_};
 ghost use lib.ListN.{length, getD};
 ghost use Rattle.term.specs.Word.{countOf};
-ghost use Rattle.compiler.specs.told.Tables.{Changed, isVariable, firstSpot, isClosed, isSame, isConstraint, isLeft, firstFrom, firstConstraint, inList, amongAt, sameList, sameClosed, sameSame, sameName, kindFrom, leftSame, rowHas, struckRows, rowOf, struckSame};
+ghost use Rattle.compiler.specs.told.Tables.{Changed, isVariable, firstSpot, isClosed, isSame, isConstraint, isLeft, firstFrom, firstConstraint, inList, amongAt, sameList, sameClosed, sameSame, sameName, kindFrom, leftSame, rowHas, struckRows, rowOf, struckSame, onlyAt, ofFreeRow, unmarked};
 use crate::table::CLOSED_MARKS;
 use crate::table::DEPTHS;
 use crate::table::FREE;
 use crate::table::SAME_MARKS;
 use crate::table::SPOTS;
+use crate::table::next_row;
+use crate::table::without_mark;
 use book::limits::MOST_RULES_LONG;
 use book::limits::MOST_SIDE;
 use term::word::PATTERN;
@@ -248,23 +250,19 @@ fn row_has(fixed: &[u32], nums: &[u32], marks: &[u32], id: usize, r: usize) -> b
     false
 }
 
-// The mark of `other` after the constraint was struck from every row.
+// The mark of `other`, of a row that is not struck, after the constraint was struck.
 fn strike_mark(
     fixed: &[u32],
     nums: &[u32],
     marks: &[u32],
     id: usize,
-    r: usize,
     other: usize,
     mark: u32,
 ) -> u32
     requires { ⌜ (length (now fixed) ≡ 8256) × (length (now nums) ≡ 4096) × (length (now marks) ≡ 12352) × (4160 ≤ id) × (id < 12352) × (kindFrom id ≤ other) × (other < kindFrom id + 4096)
-        × (r ≡ rowOf (kindFrom id) other) ⌝ }
+        × (getD (now marks) (rowOf (kindFrom id) other) 0 ≡ 0) ⌝ }
     ensures { λ x. ⌜ x ≡ struckSame (now (fixed .entry)) (now (nums .entry)) (now (marks .entry)) id mark other (getD (now (marks .entry)) other 0) ⌝ }
 {
-    if marks[r] != FREE {
-        return marks[other];
-    }
     if left_same(fixed, nums, marks, id, other) {
         return mark;
     }
@@ -277,10 +275,31 @@ pub fn strike(fixed: &[u32], nums: &[u32], marks: &mut [u32], id: usize, mark: u
     ensures { λ _. ⌜ Changed (struckSame (now (fixed .entry)) (now (nums .entry)) (now (marks .entry)) id mark) (now (marks .entry)) (now (marks .exit)) ⌝ }
 {
     let from = kind_from(id);
-    let mut i: usize = 0;
-    while i < SPOTS {
-        marks[from + i] = strike_mark(fixed, nums, marks, id, i / MOST_SIDE, from + i, mark);
-        i += 1;
+    let mut k: usize = 0;
+    while k < SPOTS {
+        if marks[k / MOST_SIDE] != FREE {
+            k = next_row(k);
+            continue;
+        }
+        marks[from + k] = strike_mark(fixed, nums, marks, id, from + k, mark);
+        k += 1;
+    }
+}
+
+// Takes a node's mark away from the constraints of the same kind: only rows that are not struck have it.
+pub fn unstrike(marks: &mut [u32], id: usize, mark: u32)
+    requires { ⌜ length (now marks) ≡ 12352 ⌝ }
+    ensures { λ _. ⌜ Changed (onlyAt (ofFreeRow (now (marks .entry)) (kindFrom id)) (unmarked mark)) (now (marks .entry)) (now (marks .exit)) ⌝ }
+{
+    let from = kind_from(id);
+    let mut k: usize = 0;
+    while k < SPOTS {
+        if marks[k / MOST_SIDE] != FREE {
+            k = next_row(k);
+            continue;
+        }
+        marks[from + k] = without_mark(marks[from + k], mark);
+        k += 1;
     }
 }
 

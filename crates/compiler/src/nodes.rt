@@ -9,12 +9,14 @@ use crate::constraints::NONE_LEFT;
 use crate::constraints::drop_having;
 use crate::constraints::first_constraint;
 use crate::constraints::strike;
+use crate::constraints::unstrike;
 use crate::heads::count_heads;
 use crate::heads::drop_others;
 use crate::heads::lowest_open;
 use crate::heads::new_head;
 use crate::numbers::number_rows;
 use crate::table::ENTERED;
+use crate::table::FREE;
 use crate::table::NO_HEAD;
 use crate::table::first_row;
 use crate::table::forget;
@@ -53,7 +55,7 @@ fn test_node(
     let Passed::Done(next) = tree_of(fixed, nums, marks, out, limit, count, slot + 2) else {
         return Passed::Stuck;
     };
-    unmark(marks, mark);
+    unstrike(marks, id, mark);
     put(out, slot + 1, next as u32);
     drop_having(fixed, nums, marks, id, mark);
     let Passed::Done(end) = tree_of(fixed, nums, marks, out, limit, count, next) else {
@@ -87,7 +89,8 @@ fn case_tree(
     let Passed::Done(next) = tree_of(fixed, nums, marks, out, limit, count + more, at) else {
         return Passed::Stuck;
     };
-    forget(nums, count);
+    forget(nums, marks, count);
+    marks[ENTERED + n as usize] = FREE;
     unmark(marks, mark);
     Passed::Done(next)
 }

@@ -3,8 +3,10 @@ ghost use mathlib.Core.Path.{_≡_};
 ghost use lib.Dec.{eqb, ltb};
 ghost use lib.ListN.{length};
 ghost use Rattle.term.specs.Word.{pick};
-ghost use Rattle.compiler.specs.told.Tables.{Changed, unmarked, forgotten, firstRow};
+ghost use Prim.Native.Nat.{_+_, _*_, _/_, _<_};
+ghost use Rattle.compiler.specs.told.Tables.{Changed, onlyAt, isRow, ofFreeRow, unmarked, forgotten, firstRow};
 use book::limits::MOST_RULES_LONG;
+use book::limits::MOST_SIDE;
 use term::word::KIND;
 use term::word::VARIABLE;
 
@@ -34,7 +36,7 @@ pub const ABSENT_ROW: u32 = 1;
 // The variable 0, which the table does not have: it says that there is no head.
 pub const NO_HEAD: u32 = VARIABLE * KIND;
 
-fn without_mark(x: u32, mark: u32) -> u32
+pub fn without_mark(x: u32, mark: u32) -> u32
     ensures { λ r. ⌜ r ≡ pick (eqb x mark) 0 x ⌝ }
 {
     if x == mark {
@@ -52,25 +54,39 @@ fn up_to(x: u32, count: u32) -> u32
     x
 }
 
-// Takes a mark away wherever it stands.
+// Takes a node's mark away from the rows.
 pub fn unmark(marks: &mut [u32], mark: u32)
-    ensures { λ _. ⌜ Changed (unmarked mark) (now (marks .entry)) (now (marks .exit)) ⌝ }
+    requires { ⌜ length (now marks) ≡ 12352 ⌝ }
+    ensures { λ _. ⌜ Changed (onlyAt isRow (unmarked mark)) (now (marks .entry)) (now (marks .exit)) ⌝ }
 {
-    let mut i: usize = 0;
-    while i < marks.len() {
-        marks[i] = without_mark(marks[i], mark);
-        i += 1;
+    let mut r: usize = 0;
+    while r < MOST_RULES_LONG {
+        marks[r] = without_mark(marks[r], mark);
+        r += 1;
     }
 }
 
-// Takes the numbers over `count` away: the places that have them are no longer uncovered.
-pub fn forget(nums: &mut [u32], count: u32)
-    ensures { λ _. ⌜ Changed (forgotten count) (now (nums .entry)) (now (nums .exit)) ⌝ }
+// The first spot of the row after that of spot k.
+pub fn next_row(k: usize) -> usize
+    requires { ⌜ k < 4096 ⌝ }
+    ensures { λ r. ⌜ r ≡ k / 64 * 64 + 64 ⌝ }
 {
-    let mut i: usize = 0;
-    while i < nums.len() {
-        nums[i] = up_to(nums[i], count);
-        i += 1;
+    k / MOST_SIDE * MOST_SIDE + MOST_SIDE
+}
+
+// Takes the numbers over `count` away from the rows that are not struck: the places that have them are no longer uncovered.
+pub fn forget(nums: &mut [u32], marks: &[u32], count: u32)
+    requires { ⌜ (length (now nums) ≡ 4096) × (length (now marks) ≡ 12352) ⌝ }
+    ensures { λ _. ⌜ Changed (onlyAt (ofFreeRow (now (marks .entry)) 0) (forgotten count)) (now (nums .entry)) (now (nums .exit)) ⌝ }
+{
+    let mut k: usize = 0;
+    while k < SPOTS {
+        if marks[k / MOST_SIDE] != FREE {
+            k = next_row(k);
+            continue;
+        }
+        nums[k] = up_to(nums[k], count);
+        k += 1;
     }
 }
 

@@ -24,6 +24,10 @@ manyAt p i (suc more) = pick (p i) 1 0 + manyAt p (suc i) more
 unfoldable pub Changed : (ℕ → ℕ → ℕ) → List ℕ → List ℕ → Type 0
 Changed f before after = (k : ℕ) → getD after k 0 ≡ f k (getD before k 0)
 
+-- only the words for which a test holds are changed
+abbrev pub onlyAt : (ℕ → Bool) → (ℕ → ℕ → ℕ) → ℕ → ℕ → ℕ
+onlyAt p f k x = pick (p k) (f k x) x
+
 -- a mark is taken away
 abbrev pub unmarked : ℕ → ℕ → ℕ → ℕ
 unmarked mark k x = pick (eqb x mark) 0 x
@@ -36,13 +40,20 @@ forgotten count k x = pick (ltb count x) 0 x
 abbrev pub struckRows : (ℕ → Bool) → ℕ → ℕ → ℕ → ℕ
 struckRows p mark k x = pick (ltb k 64) (pick (eqb x 0 && p k) mark x) x
 
--- the same of 64 marks from this one on
-abbrev pub struckFrom : ℕ → (ℕ → Bool) → ℕ → ℕ → ℕ → ℕ
-struckFrom from p mark k x = pick (ltb k from) x (pick (ltb k (from + 64)) (pick (p k) mark x) x)
-
 -- ---- rows
 abbrev pub isFree : List ℕ → ℕ → Bool
 isFree marks k = eqb (getD marks k 0) 0
+
+abbrev pub isRow : ℕ → Bool
+isRow k = ltb k 64
+
+-- the row of the word k, where each row has 64 words from `from` on
+abbrev pub rowOf : ℕ → ℕ → ℕ
+rowOf from k = (k - from) / 64
+
+-- a word of a row that is not struck
+abbrev pub ofFreeRow : List ℕ → ℕ → ℕ → Bool
+ofFreeRow marks from k = pick (ltb k from) false (pick (ltb k (from + 4096)) (isFree marks (rowOf from k)) false)
 
 -- the first row that is not struck, 64 where there is none
 unfoldable pub firstRow : List ℕ → ℕ
@@ -185,9 +196,6 @@ unfoldable pub rowHas : List ℕ → List ℕ → List ℕ → ℕ → ℕ → B
 rowHas fixed nums marks id r = ltb (firstAt (λ o. leftSame fixed nums marks id (kindFrom id + r * 64 + o)) 0 64) 64
 
 -- a row that is not struck has at `other` the same constraint as `id`
-abbrev pub rowOf : ℕ → ℕ → ℕ
-rowOf from k = (k - from) / 64
-
 abbrev pub strikes : List ℕ → List ℕ → List ℕ → ℕ → ℕ → Bool
 strikes fixed nums marks id k = isFree marks (rowOf (kindFrom id) k) && (isConstraint fixed k && sameName fixed nums id k)
 

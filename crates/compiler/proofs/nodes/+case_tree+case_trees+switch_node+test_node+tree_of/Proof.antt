@@ -34,6 +34,7 @@ use Rattle.term.proofs.word.count_of.Reads as count-of-reads
 use Rattle.compiler.proofs.constraints.drop_having.Reads as drop-having-reads
 use Rattle.compiler.proofs.constraints.first_constraint.Reads as first-constraint-reads
 use Rattle.compiler.proofs.constraints.strike.Reads as strike-reads
+use Rattle.compiler.proofs.constraints.unstrike.Reads as unstrike-reads
 use Rattle.compiler.proofs.heads.count_heads.Reads as count-heads-reads
 use Rattle.compiler.proofs.heads.drop_others.Reads as drop-others-reads
 use Rattle.compiler.proofs.heads.lowest_open.Reads as lowest-open-reads
@@ -106,7 +107,7 @@ abbrev switch-node-calls : ℕ → switch-node-lts.Claims
 switch-node-calls t = (count-heads-reads.Asked, count-heads-reads.Learnt, put-reads.Asked, put-reads.Learnt, case-trees-below t, case-trees.Post, drop-others-reads.Asked, drop-others-reads.Learnt, tree-of-below t, tree-of.Post, unmark-reads.Asked, unmark-reads.Learnt)
 
 abbrev test-node-calls : ℕ → test-node-lts.Claims
-test-node-calls t = (put-front-reads.Asked, put-front-reads.Learnt, put-reads.Asked, put-reads.Learnt, strike-reads.Asked, strike-reads.Learnt, tree-of-below t, tree-of.Post, unmark-reads.Asked, unmark-reads.Learnt, drop-having-reads.Asked, drop-having-reads.Learnt)
+test-node-calls t = (put-front-reads.Asked, put-front-reads.Learnt, put-reads.Asked, put-reads.Learnt, strike-reads.Asked, strike-reads.Learnt, tree-of-below t, tree-of.Post, unstrike-reads.Asked, unstrike-reads.Learnt, drop-having-reads.Asked, drop-having-reads.Learnt, unmark-reads.Asked, unmark-reads.Learnt)
 
 abbrev tree-of-calls : ℕ → tree-of-lts.Claims
 tree-of-calls t = (first-row-reads.Asked, first-row-reads.Learnt, put-reads.Asked, put-reads.Learnt, lowest-open-reads.Asked, lowest-open-reads.Learnt, switch-node-below t, switch-node.Post, first-constraint-reads.Asked, first-constraint-reads.Learnt, test-node-below t, test-node.Post, put-leaf-reads.Asked, put-leaf-reads.Learnt)
@@ -168,27 +169,52 @@ case-tree-returns t c =
     let far = c .before .before .before .before .before .before .before .before .before .before .before .before .before .before .before .before .before .before .before .before in
     let s = start .args in let p = start .pre in (case-over (s .fixed .now) (s .nums .now) (s .marks .now) (s .limit) (s .count) (s .at) (s .mark) (s .n) (s .w) (p .1 .0) (p .1 .1) (s .out .now) _ (far .drop-others .kept .1 .1 .0) (far .drop-others .ensures) _ (c .before .before .before .before .before .before .before .before .before .before .before .before .before .before .before .number-rows .ensures) _ _ _ _ (rw (c .before .before .before .before .before .before .before .before .before .before .before .before .count-of .ensures) at (c .before .before .before .before .before .before .before .before .tree-of .ensures)) (c .enum-told .given .1), tt)
 
+case-tree-forget-requires : (t : ℕ) → case-tree-lts.Need-forget-requires (case-tree-calls t) (case-tree-at t) case-tree.Post
+case-tree-forget-requires t c κs =
+    let start = c .before .before .before .before .before .before .before .before .before .before .before .before .before .before .before .before .before .before .before .before .before .before .before .before .before .before .before .before .before .before in
+    let s = start .args in let p = start .pre in (c .before .before .before .before .before .before .before .before .before .before .before .tree-of .kept .1 .0 ∙ c .before .before .before .before .before .before .before .before .before .before .before .before .before .before .before .before .before .before .number-rows .kept .1 .0 ∙ p .1 .0 .sizes .1, c .before .before .before .before .before .before .before .before .before .before .before .tree-of .kept .1 .1 .0 ∙ length-set (c .before .before .before .before .before .before .before .before .before .before .before .before .before .before .before .before .before .before .before .before .before .before .before .drop-others .last .1 .1 .0) (64 + s .n) (s .mark) ∙ c .before .before .before .before .before .before .before .before .before .before .before .before .before .before .before .before .before .before .before .before .before .before .before .drop-others .kept .1 .1 .0 ∙ p .1 .0 .sizes .2)
+
+case-tree-add-marks-2 : (t : ℕ) → case-tree-lts.Need-add-marks-2 (case-tree-calls t) (case-tree-at t) case-tree.Post
+case-tree-add-marks-2 t c =
+    let start = c .before .before .before .before .before .before .before .before .before .before .before .before .before .before .before .before .before .before .before .before .before .before .before .before .before .before .before .before .before .before .before .before .before in
+    let s = start .args in let p = start .pre in omega (arith, p .1 .0 .known, case-places (s .fixed .now) (s .nums .now) (s .marks .now) (s .limit) (s .count) (s .at) (s .mark) (s .n) (s .w) (p .1 .0) (p .1 .1))
+
+case-tree-mul-marks-2 : (t : ℕ) → case-tree-lts.Need-mul-marks-2 (case-tree-calls t) (case-tree-at t) case-tree.Post
+case-tree-mul-marks-2 t c =
+    let start = c .before .before .before .before .before .before .before .before .before .before .before .before .before .before .before .before .before .before .before .before .before .before .before .before .before .before .before .before .before .before .before .before .before in
+    let s = start .args in let p = start .pre in omega (arith, p .1 .0 .known, case-places (s .fixed .now) (s .nums .now) (s .marks .now) (s .limit) (s .count) (s .at) (s .mark) (s .n) (s .w) (p .1 .0) (p .1 .1))
+
+case-tree-slice-write-marks-2 : (t : ℕ) → case-tree-lts.Need-slice-write-marks-2 (case-tree-calls t) (case-tree-at t) case-tree.Post
+case-tree-slice-write-marks-2 t c =
+    let start = c .before .before .before .before .before .before .before .before .before .before .before .before .before .before .before .before .before .before .before .before .before .before .before .before .before .before .before .before .before .before .before .before .before in
+    let s = start .args in let p = start .pre in omega (arith, p .1 .0 .known, case-places (s .fixed .now) (s .nums .now) (s .marks .now) (s .limit) (s .count) (s .at) (s .mark) (s .n) (s .w) (p .1 .0) (p .1 .1), c .before .before .before .before .before .before .before .before .before .before .before .before .before .before .tree-of .kept .1 .1 .0 ∙ length-set (c .before .before .before .before .before .before .before .before .before .before .before .before .before .before .before .before .before .before .before .before .before .before .before .before .before .before .drop-others .last .1 .1 .0) (64 + s .n) (s .mark) ∙ c .before .before .before .before .before .before .before .before .before .before .before .before .before .before .before .before .before .before .before .before .before .before .before .before .before .before .drop-others .kept .1 .1 .0 ∙ p .1 .0 .sizes .2)
+
+case-tree-unmark-requires : (t : ℕ) → case-tree-lts.Need-unmark-requires (case-tree-calls t) (case-tree-at t) case-tree.Post
+case-tree-unmark-requires t c κs =
+    let start = c .before .before .before .before .before .before .before .before .before .before .before .before .before .before .before .before .before .before .before .before .before .before .before .before .before .before .before .before .before .before .before .before .before .before in
+    let s = start .args in let p = start .pre in length-set (c .before .before .before .before .before .before .before .before .before .before .before .before .before .before .before .tree-of .last .1 .1 .0) (64 + s .n) 0 ∙ c .before .before .before .before .before .before .before .before .before .before .before .before .before .before .before .tree-of .kept .1 .1 .0 ∙ length-set (c .before .before .before .before .before .before .before .before .before .before .before .before .before .before .before .before .before .before .before .before .before .before .before .before .before .before .before .drop-others .last .1 .1 .0) (64 + s .n) (s .mark) ∙ c .before .before .before .before .before .before .before .before .before .before .before .before .before .before .before .before .before .before .before .before .before .before .before .before .before .before .before .drop-others .kept .1 .1 .0 ∙ p .1 .0 .sizes .2
+
 case-tree-same-length-4 : (t : ℕ) → case-tree-lts.Need-same-length-4 (case-tree-calls t) (case-tree-at t) case-tree.Post
 case-tree-same-length-4 t c =
-    c .before .before .before .before .before .before .forget .kept .0 ∙ c .before .before .before .before .before .before .before .before .before .before .before .before .before .before .before .before .before .tree-of .kept .1 .0 ∙ c .before .before .before .before .before .before .before .before .before .before .before .before .before .before .before .before .before .before .before .before .before .before .before .before .number-rows .kept .1 .0
+    c .before .before .before .before .before .before .forget .kept .0 ∙ c .before .before .before .before .before .before .before .before .before .before .before .before .before .before .before .before .before .before .tree-of .kept .1 .0 ∙ c .before .before .before .before .before .before .before .before .before .before .before .before .before .before .before .before .before .before .before .before .before .before .before .before .before .number-rows .kept .1 .0
 
 case-tree-same-length-5 : (t : ℕ) → case-tree-lts.Need-same-length-5 (case-tree-calls t) (case-tree-at t) case-tree.Post
 case-tree-same-length-5 t c =
-    let start = c .before .before .before .before .before .before .before .before .before .before .before .before .before .before .before .before .before .before .before .before .before .before .before .before .before .before .before .before .before .before .before .before .before .before .before .before in
-    let far = c .before .before .before .before .before .before .before .before .before .before .before .before .before .before .before .before .before .before .before .before .before .before .before .before .before .before .before .before .before in
-    let s = start .args in let p = start .pre in c .before .before .unmark .kept .0 ∙ c .before .before .before .before .before .before .before .before .before .before .before .before .before .before .before .before .before .tree-of .kept .1 .1 .0 ∙ length-set (far .drop-others .last .1 .1 .0) (64 + s .n) (s .mark) ∙ far .drop-others .kept .1 .1 .0
+    let start = c .before .before .before .before .before .before .before .before .before .before .before .before .before .before .before .before .before .before .before .before .before .before .before .before .before .before .before .before .before .before .before .before .before .before .before .before .before in
+    let far = c .before .before .before .before .before .before .before .before .before .before .before .before .before .before .before .before .before .before .before .before .before .before .before .before .before .before .before .before .before .before in
+    let s = start .args in let p = start .pre in c .before .before .unmark .kept .0 ∙ length-set (c .before .before .before .before .before .before .before .before .before .before .before .before .before .before .before .before .before .before .tree-of .last .1 .1 .0) (64 + s .n) 0 ∙ c .before .before .before .before .before .before .before .before .before .before .before .before .before .before .before .before .before .before .tree-of .kept .1 .1 .0 ∙ length-set (far .drop-others .last .1 .1 .0) (64 + s .n) (s .mark) ∙ far .drop-others .kept .1 .1 .0
 
 case-tree-same-length-6 : (t : ℕ) → case-tree-lts.Need-same-length-6 (case-tree-calls t) (case-tree-at t) case-tree.Post
 case-tree-same-length-6 t c =
-    c .before .before .before .before .before .before .before .before .before .before .before .before .before .before .before .before .before .tree-of .kept .1 .1 .1 .0
+    c .before .before .before .before .before .before .before .before .before .before .before .before .before .before .before .before .before .before .tree-of .kept .1 .1 .1 .0
 
 case-tree-returns-2 : (t : ℕ) → case-tree-lts.Need-returns-2 (case-tree-calls t) (case-tree-at t) case-tree.Post
 case-tree-returns-2 t c =
-    let start = c .before .before .before .before .before .before .before .before .before .before .before .before .before .before .before .before .before .before .before .before .before .before .before .before .before .before .before .before .before .before .before .before .before .before .before .before in
-    let far = c .before .before .before .before .before .before .before .before .before .before .before .before .before .before .before .before .before .before .before .before .before .before .before .before .before .before .before .before .before in
+    let start = c .before .before .before .before .before .before .before .before .before .before .before .before .before .before .before .before .before .before .before .before .before .before .before .before .before .before .before .before .before .before .before .before .before .before .before .before .before in
+    let far = c .before .before .before .before .before .before .before .before .before .before .before .before .before .before .before .before .before .before .before .before .before .before .before .before .before .before .before .before .before .before in
     let far2 = c .before .before .before .before .before .before in
     let far3 = c .before .before in
-    let s = start .args in let p = start .pre in case-done (s .fixed .now) (s .nums .now) (s .marks .now) (s .limit) (s .count) (s .at) (s .mark) (s .n) (s .w) (p .1 .0) (p .1 .1) (s .out .now) _ (far .drop-others .kept .1 .1 .0) (far .drop-others .ensures) _ (c .before .before .before .before .before .before .before .before .before .before .before .before .before .before .before .before .before .before .before .before .before .before .before .before .number-rows .ensures) _ _ _ _ (rw (c .before .before .before .before .before .before .before .before .before .before .before .before .before .before .before .before .before .before .before .before .before .count-of .ensures) at (c .before .before .before .before .before .before .before .before .before .before .before .before .before .before .before .before .before .tree-of .ensures)) _ (c .before .before .before .before .before .before .before .before .before .next .given .1) _ _ (far2 .forget .kept .0) (far2 .forget .ensures) (far3 .unmark .kept .0) (far3 .unmark .ensures)
+    let s = start .args in let p = start .pre in case-done (s .fixed .now) (s .nums .now) (s .marks .now) (s .limit) (s .count) (s .at) (s .mark) (s .n) (s .w) (p .1 .0) (p .1 .1) (s .out .now) _ (far .drop-others .kept .1 .1 .0) (far .drop-others .ensures) _ (c .before .before .before .before .before .before .before .before .before .before .before .before .before .before .before .before .before .before .before .before .before .before .before .before .before .number-rows .ensures) _ _ _ _ (rw (c .before .before .before .before .before .before .before .before .before .before .before .before .before .before .before .before .before .before .before .before .before .before .count-of .ensures) at (c .before .before .before .before .before .before .before .before .before .before .before .before .before .before .before .before .before .before .tree-of .ensures)) _ (c .before .before .before .before .before .before .before .before .before .before .next .given .1) _ _ (far2 .forget .kept .0) (far2 .forget .ensures) (far3 .unmark .kept .0) (far3 .unmark .ensures)
 
 case-trees-loop-holds : (t : ℕ) → case-trees-lts.Need-loop-holds (case-trees-calls t) (case-trees-at t) case-trees.Post Inv-loop μ-loop
 case-trees-loop-holds t c =
@@ -372,6 +398,10 @@ switch-node-returns-2 t c =
     let far = c .before .before .before .before .before .before .before .before .before .before .before .before .before .before in
     let s = start .args in let p = start .pre in (switch-default-over (s .fixed .now) (s .nums .now) (s .marks .now) (s .limit) (s .count) (s .at) (s .n) (p .1) (s .at + 2) refl (s .out .now) _ (c .before .before .before .before .before .before .before .before .before .before .before .before .before .before .before .before .before .before .before .before .before .before .before .before .before .before .before .before .before .before .before .before .before .before .before .before .before .before .before .before .before .before .count-heads .ensures) _ _ _ _ _ _ (c .before .before .before .before .before .before .before .before .before .before .before .before .before .before .before .before .before .before .before .before .before .before .before .before .before .before .before .before .before .before .before .before .before .before .before .before .before .before .before .before .put .ensures) (c .before .before .before .before .before .before .before .before .before .before .before .before .before .before .before .before .before .before .before .before .before .before .before .before .before .before .before .before .before .before .before .before .before .before .before .before .put2 .ensures) (c .before .before .before .before .before .before .before .before .before .before .before .before .before .before .before .before .before .before .before .before .before .before .before .before .before .before .before .before .before .before .before .before .put3 .ensures) _ (c .before .before .before .before .before .before .before .before .before .before .before .before .before .before .before .before .before .before .before .before .before .before .before .before .before .before .case-trees .ensures) _ (c .before .before .before .before .before .before .before .before .before .before .before .before .before .before .before .before .before .before .next .given .1) _ (far .drop-others .kept .1 .1 .0) (far .drop-others .ensures) _ _ _ _ (c .before .before .before .before .before .before .before .before .tree-of .ensures) (c .enum-told2 .given .1), tt)
 
+switch-node-unmark-requires : (t : ℕ) → switch-node-lts.Need-unmark-requires (switch-node-calls t) (switch-node-at t) switch-node.Post
+switch-node-unmark-requires t c κs =
+    c .before .before .before .before .before .before .before .before .before .before .tree-of .kept .1 .1 .0 ∙ c .before .before .before .before .before .before .before .before .before .before .before .before .before .before .before .before .drop-others .kept .1 .1 .0 ∙ c .before .before .before .before .before .before .before .before .before .before .before .before .before .before .before .before .before .before .before .before .before .before .before .before .before .before .before .before .case-trees .kept .1 .1 .0 ∙ c .before .before .before .before .before .before .before .before .before .before .before .before .before .before .before .before .before .before .before .before .before .before .before .before .before .before .before .before .before .before .before .before .before .before .before .before .before .before .before .before .before .before .before .before .before .before .before .before .before .before .before .pre .1 .ready .sizes .2
+
 switch-node-same-length-7 : (t : ℕ) → switch-node-lts.Need-same-length-7 (switch-node-calls t) (switch-node-at t) switch-node.Post
 switch-node-same-length-7 t c =
     c .before .before .before .before .before .before .before .before .before .before .before .before .before .tree-of .kept .1 .0 ∙ c .before .before .before .before .before .before .before .before .before .before .before .before .before .before .before .before .before .before .before .before .before .before .before .before .before .before .before .before .before .before .before .case-trees .kept .1 .0
@@ -452,6 +482,10 @@ test-node-returns t c =
     let far2 = c .before .before .before .before .before .before .before .before .before .before .before .before .before .before in
     let s = start .args in let p = start .pre in (yes-over (s .fixed .now) (s .nums .now) (s .marks .now) (s .limit) (s .count) (s .at) (s .id) (p .1) (s .at + 2) refl (s .out .now) _ (far .put-front .ensures .1) _ _ _ (far .put-front .ensures .0) (c .before .before .before .before .before .before .before .before .before .before .before .before .before .before .before .before .before .before .before .put .ensures) (far2 .strike .kept .1 .1 .0) (far2 .strike .ensures) _ _ _ _ (c .before .before .before .before .before .before .before .before .tree-of .ensures) (c .enum-told .given .1), tt)
 
+test-node-unstrike-requires : (t : ℕ) → test-node-lts.Need-unstrike-requires (test-node-calls t) (test-node-at t) test-node.Post
+test-node-unstrike-requires t c κs =
+    c .before .before .before .before .before .before .before .before .before .before .tree-of .kept .1 .1 .0 ∙ c .before .before .before .before .before .before .before .before .before .before .before .before .before .before .before .before .strike .kept .1 .1 .0 ∙ c .before .before .before .before .before .before .before .before .before .before .before .before .before .before .before .before .before .before .before .before .before .before .before .before .before .before .before .before .before .before .before .before .pre .1 .ready .sizes .2
+
 test-node-add-put-2 : (t : ℕ) → test-node-lts.Need-add-put-2 (test-node-calls t) (test-node-at t) test-node.Post
 test-node-add-put-2 t c =
     let start = c .before .before .before .before .before .before .before .before .before .before .before .before .before .before .before .before .before .before .before .before .before .before .before .before .before .before .before .before .before .before .before .before .before .before .before .before in
@@ -463,13 +497,13 @@ test-node-cast-put-2 t c =
     let far = c .before .before .before .before .before .before .before .before .before .before .before .before .before .before .before .before .before .before .before .before .before .before .before .before .before .before .before .before .before in
     let far2 = c .before .before .before .before .before .before .before .before .before .before .before .before .before .before .before .before .before .before .before .before in
     let far3 = c .before .before .before in
-    let s = start .args in let p = start .pre in omega (arith, p .1 .ready .within .0, next-most (s .fixed .now) (s .nums .now) (s .marks .now) (s .limit) (s .count) (s .at) (s .id) (p .1) (s .at + 2) refl (s .out .now) _ (far .put-front .ensures .1) _ _ _ (far .put-front .ensures .0) (c .before .before .before .before .before .before .before .before .before .before .before .before .before .before .before .before .before .before .before .before .before .before .before .before .before .put .ensures) (far2 .strike .kept .1 .1 .0) (far2 .strike .ensures) _ _ _ _ (c .before .before .before .before .before .before .before .before .before .before .before .before .before .before .tree-of .ensures) _ (c .before .before .before .before .before .before .next .given .1) _ (far3 .unmark .kept .0) (far3 .unmark .ensures))
+    let s = start .args in let p = start .pre in omega (arith, p .1 .ready .within .0, next-most (s .fixed .now) (s .nums .now) (s .marks .now) (s .limit) (s .count) (s .at) (s .id) (p .1) (s .at + 2) refl (s .out .now) _ (far .put-front .ensures .1) _ _ _ (far .put-front .ensures .0) (c .before .before .before .before .before .before .before .before .before .before .before .before .before .before .before .before .before .before .before .before .before .before .before .before .before .put .ensures) (far2 .strike .kept .1 .1 .0) (far2 .strike .ensures) _ _ _ _ (c .before .before .before .before .before .before .before .before .before .before .before .before .before .before .tree-of .ensures) _ (c .before .before .before .before .before .before .next .given .1) _ (far3 .unstrike .kept .0) (far3 .unstrike .ensures))
 
 test-node-drop-having-requires : (t : ℕ) → test-node-lts.Need-drop-having-requires (test-node-calls t) (test-node-at t) test-node.Post
 test-node-drop-having-requires t c κs =
     let start = c .before .before .before .before .before .before .before .before .before .before .before .before .before .before .before .before .before .before .before .before .before .before .before .before .before .before .before .before .before .before .before .before .before .before .before .before .before .before .before .before .before in
     let far = c .before .before .before .before .before .before .before .before .before .before .before .before .before .before .before .before .before .before .before in
-    let s = start .args in let p = start .pre in (p .1 .ready .sizes .0, far .tree-of .kept .1 .0 ∙ p .1 .ready .sizes .1, c .before .before .before .before .before .before .before .before .unmark .kept .0 ∙ far .tree-of .kept .1 .1 .0 ∙ c .before .before .before .before .before .before .before .before .before .before .before .before .before .before .before .before .before .before .before .before .before .before .before .before .before .strike .kept .1 .1 .0 ∙ p .1 .ready .sizes .2, test-id (s .fixed .now) (s .nums .now) (s .marks .now) (s .limit) (s .count) (s .at) (s .id) (p .1) .0, test-id (s .fixed .now) (s .nums .now) (s .marks .now) (s .limit) (s .count) (s .at) (s .id) (p .1) .1)
+    let s = start .args in let p = start .pre in (p .1 .ready .sizes .0, far .tree-of .kept .1 .0 ∙ p .1 .ready .sizes .1, c .before .before .before .before .before .before .before .before .unstrike .kept .0 ∙ far .tree-of .kept .1 .1 .0 ∙ c .before .before .before .before .before .before .before .before .before .before .before .before .before .before .before .before .before .before .before .before .before .before .before .before .before .strike .kept .1 .1 .0 ∙ p .1 .ready .sizes .2, test-id (s .fixed .now) (s .nums .now) (s .marks .now) (s .limit) (s .count) (s .at) (s .id) (p .1) .0, test-id (s .fixed .now) (s .nums .now) (s .marks .now) (s .limit) (s .count) (s .at) (s .id) (p .1) .1)
 
 test-node-tree-of-requires-2 : (t : ℕ) → test-node-lts.Need-tree-of-requires-2 (test-node-calls t) (test-node-at t) test-node.Post
 test-node-tree-of-requires-2 t c κs =
@@ -478,7 +512,7 @@ test-node-tree-of-requires-2 t c κs =
     let far2 = c .before .before .before .before .before .before .before .before .before .before .before .before .before .before .before .before .before .before .before .before .before .before .before .before .before .before .before .before .before .before .before in
     let far3 = c .before .before .before .before .before .before .before .before .before .before .before .before .before .before in
     let far4 = c .before .before .before .before .before in
-    let s = start .args in let p = start .pre in let x = no-needs (s .fixed .now) (s .nums .now) (s .marks .now) (s .limit) (s .count) (s .at) (s .id) (p .1) (s .at + 2) refl (s .out .now) _ (far .put-front .ensures .1) _ _ _ (far .put-front .ensures .0) (c .before .before .before .before .before .before .before .before .before .before .before .before .before .before .before .before .before .before .before .before .before .before .before .before .before .before .before .before .before .before .before .before .before .before .before .before .put .ensures) (far2 .strike .kept .1 .1 .0) (far2 .strike .ensures) _ _ _ _ (c .before .before .before .before .before .before .before .before .before .before .before .before .before .before .before .before .before .before .before .before .before .before .before .before .before .tree-of .ensures) _ (c .before .before .before .before .before .before .before .before .before .before .before .before .before .before .before .before .before .next .given .1) _ (far3 .unmark .kept .0) (far3 .unmark .ensures) _ _ (c .before .before .before .before .before .before .before .before .before .before .put2 .ensures) (far4 .drop-having .kept .1 .1 .0) (far4 .drop-having .ensures) in (omega (arith, p .0, x .0), x .1)
+    let s = start .args in let p = start .pre in let x = no-needs (s .fixed .now) (s .nums .now) (s .marks .now) (s .limit) (s .count) (s .at) (s .id) (p .1) (s .at + 2) refl (s .out .now) _ (far .put-front .ensures .1) _ _ _ (far .put-front .ensures .0) (c .before .before .before .before .before .before .before .before .before .before .before .before .before .before .before .before .before .before .before .before .before .before .before .before .before .before .before .before .before .before .before .before .before .before .before .before .put .ensures) (far2 .strike .kept .1 .1 .0) (far2 .strike .ensures) _ _ _ _ (c .before .before .before .before .before .before .before .before .before .before .before .before .before .before .before .before .before .before .before .before .before .before .before .before .before .tree-of .ensures) _ (c .before .before .before .before .before .before .before .before .before .before .before .before .before .before .before .before .before .next .given .1) _ (far3 .unstrike .kept .0) (far3 .unstrike .ensures) _ _ (c .before .before .before .before .before .before .before .before .before .before .put2 .ensures) (far4 .drop-having .kept .1 .1 .0) (far4 .drop-having .ensures) in (omega (arith, p .0, x .0), x .1)
 
 test-node-same-length-4 : (t : ℕ) → test-node-lts.Need-same-length-4 (test-node-calls t) (test-node-at t) test-node.Post
 test-node-same-length-4 t c =
@@ -486,7 +520,7 @@ test-node-same-length-4 t c =
 
 test-node-same-length-5 : (t : ℕ) → test-node-lts.Need-same-length-5 (test-node-calls t) (test-node-at t) test-node.Post
 test-node-same-length-5 t c =
-    c .before .before .before .before .before .before .before .before .tree-of2 .kept .1 .1 .0 ∙ c .before .before .before .before .before .before .before .before .before .before .before .before .before .before .drop-having .kept .1 .1 .0 ∙ c .before .before .before .before .before .before .before .before .before .before .before .before .before .before .before .before .before .before .before .before .before .before .before .unmark .kept .0 ∙ c .before .before .before .before .before .before .before .before .before .before .before .before .before .before .before .before .before .before .before .before .before .before .before .before .before .before .before .before .before .before .before .before .before .before .tree-of .kept .1 .1 .0 ∙ c .before .before .before .before .before .before .before .before .before .before .before .before .before .before .before .before .before .before .before .before .before .before .before .before .before .before .before .before .before .before .before .before .before .before .before .before .before .before .before .before .strike .kept .1 .1 .0
+    c .before .before .before .before .before .before .before .before .tree-of2 .kept .1 .1 .0 ∙ c .before .before .before .before .before .before .before .before .before .before .before .before .before .before .drop-having .kept .1 .1 .0 ∙ c .before .before .before .before .before .before .before .before .before .before .before .before .before .before .before .before .before .before .before .before .before .before .before .unstrike .kept .0 ∙ c .before .before .before .before .before .before .before .before .before .before .before .before .before .before .before .before .before .before .before .before .before .before .before .before .before .before .before .before .before .before .before .before .before .before .tree-of .kept .1 .1 .0 ∙ c .before .before .before .before .before .before .before .before .before .before .before .before .before .before .before .before .before .before .before .before .before .before .before .before .before .before .before .before .before .before .before .before .before .before .before .before .before .before .before .before .strike .kept .1 .1 .0
 
 test-node-same-length-6 : (t : ℕ) → test-node-lts.Need-same-length-6 (test-node-calls t) (test-node-at t) test-node.Post
 test-node-same-length-6 t c =
@@ -499,7 +533,11 @@ test-node-returns-2 t c =
     let far2 = c .before .before .before .before .before .before .before .before .before .before .before .before .before .before .before .before .before .before .before .before .before .before .before .before .before .before .before .before .before .before .before .before .before .before .before .before .before .before .before .before in
     let far3 = c .before .before .before .before .before .before .before .before .before .before .before .before .before .before .before .before .before .before .before .before .before .before .before in
     let far4 = c .before .before .before .before .before .before .before .before .before .before .before .before .before .before in
-    let s = start .args in let p = start .pre in (no-over (s .fixed .now) (s .nums .now) (s .marks .now) (s .limit) (s .count) (s .at) (s .id) (p .1) (s .at + 2) refl (s .out .now) _ (far .put-front .ensures .1) _ _ _ (far .put-front .ensures .0) (c .before .before .before .before .before .before .before .before .before .before .before .before .before .before .before .before .before .before .before .before .before .before .before .before .before .before .before .before .before .before .before .before .before .before .before .before .before .before .before .before .before .before .before .before .before .put .ensures) (far2 .strike .kept .1 .1 .0) (far2 .strike .ensures) _ _ _ _ (c .before .before .before .before .before .before .before .before .before .before .before .before .before .before .before .before .before .before .before .before .before .before .before .before .before .before .before .before .before .before .before .before .before .before .tree-of .ensures) _ (c .before .before .before .before .before .before .before .before .before .before .before .before .before .before .before .before .before .before .before .before .before .before .before .before .before .before .next .given .1) _ (far3 .unmark .kept .0) (far3 .unmark .ensures) _ _ (c .before .before .before .before .before .before .before .before .before .before .before .before .before .before .before .before .before .before .before .put2 .ensures) (far4 .drop-having .kept .1 .1 .0) (far4 .drop-having .ensures) _ _ _ _ (c .before .before .before .before .before .before .before .before .tree-of2 .ensures) (c .enum-told2 .given .1), tt)
+    let s = start .args in let p = start .pre in (no-over (s .fixed .now) (s .nums .now) (s .marks .now) (s .limit) (s .count) (s .at) (s .id) (p .1) (s .at + 2) refl (s .out .now) _ (far .put-front .ensures .1) _ _ _ (far .put-front .ensures .0) (c .before .before .before .before .before .before .before .before .before .before .before .before .before .before .before .before .before .before .before .before .before .before .before .before .before .before .before .before .before .before .before .before .before .before .before .before .before .before .before .before .before .before .before .before .before .put .ensures) (far2 .strike .kept .1 .1 .0) (far2 .strike .ensures) _ _ _ _ (c .before .before .before .before .before .before .before .before .before .before .before .before .before .before .before .before .before .before .before .before .before .before .before .before .before .before .before .before .before .before .before .before .before .before .tree-of .ensures) _ (c .before .before .before .before .before .before .before .before .before .before .before .before .before .before .before .before .before .before .before .before .before .before .before .before .before .before .next .given .1) _ (far3 .unstrike .kept .0) (far3 .unstrike .ensures) _ _ (c .before .before .before .before .before .before .before .before .before .before .before .before .before .before .before .before .before .before .before .put2 .ensures) (far4 .drop-having .kept .1 .1 .0) (far4 .drop-having .ensures) _ _ _ _ (c .before .before .before .before .before .before .before .before .tree-of2 .ensures) (c .enum-told2 .given .1), tt)
+
+test-node-unmark-requires : (t : ℕ) → test-node-lts.Need-unmark-requires (test-node-calls t) (test-node-at t) test-node.Post
+test-node-unmark-requires t c κs =
+    c .before .before .before .before .before .before .before .before .before .before .tree-of2 .kept .1 .1 .0 ∙ c .before .before .before .before .before .before .before .before .before .before .before .before .before .before .before .before .drop-having .kept .1 .1 .0 ∙ c .before .before .before .before .before .before .before .before .before .before .before .before .before .before .before .before .before .before .before .before .before .before .before .before .before .unstrike .kept .0 ∙ c .before .before .before .before .before .before .before .before .before .before .before .before .before .before .before .before .before .before .before .before .before .before .before .before .before .before .before .before .before .before .before .before .before .before .before .before .tree-of .kept .1 .1 .0 ∙ c .before .before .before .before .before .before .before .before .before .before .before .before .before .before .before .before .before .before .before .before .before .before .before .before .before .before .before .before .before .before .before .before .before .before .before .before .before .before .before .before .before .before .strike .kept .1 .1 .0 ∙ c .before .before .before .before .before .before .before .before .before .before .before .before .before .before .before .before .before .before .before .before .before .before .before .before .before .before .before .before .before .before .before .before .before .before .before .before .before .before .before .before .before .before .before .before .before .before .before .before .before .before .before .before .before .before .before .before .before .before .pre .1 .ready .sizes .2
 
 test-node-same-length-7 : (t : ℕ) → test-node-lts.Need-same-length-7 (test-node-calls t) (test-node-at t) test-node.Post
 test-node-same-length-7 t c =
@@ -507,7 +545,7 @@ test-node-same-length-7 t c =
 
 test-node-same-length-8 : (t : ℕ) → test-node-lts.Need-same-length-8 (test-node-calls t) (test-node-at t) test-node.Post
 test-node-same-length-8 t c =
-    c .before .before .unmark2 .kept .0 ∙ c .before .before .before .before .before .before .before .before .before .before .before .before .before .tree-of2 .kept .1 .1 .0 ∙ c .before .before .before .before .before .before .before .before .before .before .before .before .before .before .before .before .before .before .before .drop-having .kept .1 .1 .0 ∙ c .before .before .before .before .before .before .before .before .before .before .before .before .before .before .before .before .before .before .before .before .before .before .before .before .before .before .before .before .unmark .kept .0 ∙ c .before .before .before .before .before .before .before .before .before .before .before .before .before .before .before .before .before .before .before .before .before .before .before .before .before .before .before .before .before .before .before .before .before .before .before .before .before .before .before .tree-of .kept .1 .1 .0 ∙ c .before .before .before .before .before .before .before .before .before .before .before .before .before .before .before .before .before .before .before .before .before .before .before .before .before .before .before .before .before .before .before .before .before .before .before .before .before .before .before .before .before .before .before .before .before .strike .kept .1 .1 .0
+    c .before .before .unmark .kept .0 ∙ c .before .before .before .before .before .before .before .before .before .before .before .before .before .tree-of2 .kept .1 .1 .0 ∙ c .before .before .before .before .before .before .before .before .before .before .before .before .before .before .before .before .before .before .before .drop-having .kept .1 .1 .0 ∙ c .before .before .before .before .before .before .before .before .before .before .before .before .before .before .before .before .before .before .before .before .before .before .before .before .before .before .before .before .unstrike .kept .0 ∙ c .before .before .before .before .before .before .before .before .before .before .before .before .before .before .before .before .before .before .before .before .before .before .before .before .before .before .before .before .before .before .before .before .before .before .before .before .before .before .before .tree-of .kept .1 .1 .0 ∙ c .before .before .before .before .before .before .before .before .before .before .before .before .before .before .before .before .before .before .before .before .before .before .before .before .before .before .before .before .before .before .before .before .before .before .before .before .before .before .before .before .before .before .before .before .before .strike .kept .1 .1 .0
 
 test-node-same-length-9 : (t : ℕ) → test-node-lts.Need-same-length-9 (test-node-calls t) (test-node-at t) test-node.Post
 test-node-same-length-9 t c =
@@ -521,7 +559,7 @@ test-node-returns-3 t c =
     let far3 = c .before .before .before .before .before .before .before .before .before .before .before .before .before .before .before .before .before .before .before .before .before .before .before .before .before .before .before .before in
     let far4 = c .before .before .before .before .before .before .before .before .before .before .before .before .before .before .before .before .before .before .before in
     let far5 = c .before .before in
-    let s = start .args in let p = start .pre in test-done (s .fixed .now) (s .nums .now) (s .marks .now) (s .limit) (s .count) (s .at) (s .id) (p .1) (s .at + 2) refl (s .out .now) _ (far .put-front .ensures .1) _ _ _ (far .put-front .ensures .0) (c .before .before .before .before .before .before .before .before .before .before .before .before .before .before .before .before .before .before .before .before .before .before .before .before .before .before .before .before .before .before .before .before .before .before .before .before .before .before .before .before .before .before .before .before .before .before .before .before .before .before .put .ensures) (far2 .strike .kept .1 .1 .0) (far2 .strike .ensures) _ _ _ _ (c .before .before .before .before .before .before .before .before .before .before .before .before .before .before .before .before .before .before .before .before .before .before .before .before .before .before .before .before .before .before .before .before .before .before .before .before .before .before .before .tree-of .ensures) _ (c .before .before .before .before .before .before .before .before .before .before .before .before .before .before .before .before .before .before .before .before .before .before .before .before .before .before .before .before .before .before .before .next .given .1) _ (far3 .unmark .kept .0) (far3 .unmark .ensures) _ _ (c .before .before .before .before .before .before .before .before .before .before .before .before .before .before .before .before .before .before .before .before .before .before .before .before .put2 .ensures) (far4 .drop-having .kept .1 .1 .0) (far4 .drop-having .ensures) _ _ _ _ (c .before .before .before .before .before .before .before .before .before .before .before .before .before .tree-of2 .ensures) _ (c .before .before .before .before .before .end .given .1) _ (far5 .unmark2 .kept .0) (far5 .unmark2 .ensures)
+    let s = start .args in let p = start .pre in test-done (s .fixed .now) (s .nums .now) (s .marks .now) (s .limit) (s .count) (s .at) (s .id) (p .1) (s .at + 2) refl (s .out .now) _ (far .put-front .ensures .1) _ _ _ (far .put-front .ensures .0) (c .before .before .before .before .before .before .before .before .before .before .before .before .before .before .before .before .before .before .before .before .before .before .before .before .before .before .before .before .before .before .before .before .before .before .before .before .before .before .before .before .before .before .before .before .before .before .before .before .before .before .put .ensures) (far2 .strike .kept .1 .1 .0) (far2 .strike .ensures) _ _ _ _ (c .before .before .before .before .before .before .before .before .before .before .before .before .before .before .before .before .before .before .before .before .before .before .before .before .before .before .before .before .before .before .before .before .before .before .before .before .before .before .before .tree-of .ensures) _ (c .before .before .before .before .before .before .before .before .before .before .before .before .before .before .before .before .before .before .before .before .before .before .before .before .before .before .before .before .before .before .before .next .given .1) _ (far3 .unstrike .kept .0) (far3 .unstrike .ensures) _ _ (c .before .before .before .before .before .before .before .before .before .before .before .before .before .before .before .before .before .before .before .before .before .before .before .before .put2 .ensures) (far4 .drop-having .kept .1 .1 .0) (far4 .drop-having .ensures) _ _ _ _ (c .before .before .before .before .before .before .before .before .before .before .before .before .before .tree-of2 .ensures) _ (c .before .before .before .before .before .end .given .1) _ (far5 .unmark .kept .0) (far5 .unmark .ensures)
 
 tree-of-returns : (t : ℕ) → tree-of-lts.Need-returns (tree-of-calls t) (tree-of-at t) tree-of.Post
 tree-of-returns t c =
@@ -632,8 +670,11 @@ pub +case-tree+case-trees+switch-node+test-node+tree-of-spec : {M : Type 1} → 
     (case-tree-same-length-2 t)
     (case-tree-same-length-3 t)
     (case-tree-returns t)
-    (λ c κs. search needs)
-    (λ c κs. search needs)
+    (case-tree-forget-requires t)
+    (case-tree-add-marks-2 t)
+    (case-tree-mul-marks-2 t)
+    (case-tree-slice-write-marks-2 t)
+    (case-tree-unmark-requires t)
     (case-tree-same-length-4 t)
     (case-tree-same-length-5 t)
     (case-tree-same-length-6 t)
@@ -693,7 +734,7 @@ pub +case-tree+case-trees+switch-node+test-node+tree-of-spec : {M : Type 1} → 
     (switch-node-same-length-5 t)
     (switch-node-same-length-6 t)
     (switch-node-returns-2 t)
-    (λ c κs. search needs)
+    (switch-node-unmark-requires t)
     (switch-node-same-length-7 t)
     (switch-node-same-length-8 t)
     (switch-node-same-length-9 t)
@@ -714,7 +755,7 @@ pub +case-tree+case-trees+switch-node+test-node+tree-of-spec : {M : Type 1} → 
     (test-node-same-length-2 t)
     (test-node-same-length-3 t)
     (test-node-returns t)
-    (λ c κs. search needs)
+    (test-node-unstrike-requires t)
     (test-node-add-put-2 t)
     (test-node-cast-put-2 t)
     (λ c κs. search needs)
@@ -726,7 +767,7 @@ pub +case-tree+case-trees+switch-node+test-node+tree-of-spec : {M : Type 1} → 
     (test-node-same-length-5 t)
     (test-node-same-length-6 t)
     (test-node-returns-2 t)
-    (λ c κs. search needs)
+    (test-node-unmark-requires t)
     (test-node-same-length-7 t)
     (test-node-same-length-8 t)
     (test-node-same-length-9 t)

@@ -1,50 +1,44 @@
--- `table::unmark` meets its contract: the words passed are changed, and the others are as they came.
+-- `table::unmark` meets its contract: the rows passed are changed, and what is after them is as it came.
 use borrow.Author.Needs.{needs}
 use native.Mathlib.Omega.{arith}
-use mathlib.Core.Path.{_≡_, refl, sym, ap, _∙_}
-use Prim.Native.Nat.{ℕ, _-_, _≤_}
-use lib.ListN.{length, length-set}
-use lib.Dec.{eqb}
-use Rattle.compiler.specs.told.Tables.{unmarked}
+use mathlib.Core.Path.{ap, _∙_}
+use Prim.Native.Nat.{_-_, _≤_}
+use lib.ListN.{getD}
+use Rattle.compiler.specs.told.Tables.{onlyAt, isRow, unmarked}
 use Rattle.compiler.proofs.Sweeps.{Sweeping, sweep-start, sweep-set, sweep-here, sweep-end}
-use Rattle.compiler.proofs.TableLaws.{none-unmarked}
+use Rattle.compiler.proofs.TableLaws.{row-only, past-only}
 use Rattle.compiler.proofs.table.unmark.Statement.{statement}
 use Rattle.compiler.proofs.table.unmark.Tie as tie
 
 abbrev Inv-loop : tie.InvT-loop
-Inv-loop marks₀ mark i₀ marks i = (i ≤ length marks₀) × Sweeping (unmarked mark) marks₀ marks i
+Inv-loop marks₀ mark r₀ marks r = (r ≤ 64) × Sweeping (onlyAt isRow (unmarked mark)) marks₀ marks r
 
 abbrev μ-loop : tie.MeasureT-loop
-μ-loop marks₀ mark i₀ marks i = length marks₀ - i
+μ-loop marks₀ mark r₀ marks r = 64 - r
 
 loop-holds : tie.Need-loop-holds Inv-loop μ-loop
-loop-holds c = (omega arith, sweep-start (unmarked (c .before .args .mark)) (c .before .args .marks .now) 0 (λ k h. absurd (omega arith)))
+loop-holds c = (omega arith, sweep-start (onlyAt isRow (unmarked (c .before .args .mark))) (c .before .args .marks .now) 0 (λ k h. absurd (omega arith)))
 
 mul-without-mark : tie.Need-mul-without-mark Inv-loop μ-loop
-mul-without-mark c = omega (arith, c .before .loop .inv .1 .long)
+mul-without-mark c = omega (arith, c .before .loop .inv .1 .long, c .before .before .before .pre)
 
 slice-read-without-mark : tie.Need-slice-read-without-mark Inv-loop μ-loop
-slice-read-without-mark c = omega (arith, c .before .before .loop .inv .1 .long)
+slice-read-without-mark c = omega (arith, c .before .before .loop .inv .1 .long, c .before .before .before .before .pre)
 
 mul-marks : tie.Need-mul-marks Inv-loop μ-loop
-mul-marks c = omega (arith, c .before .before .before .loop .inv .1 .long)
+mul-marks c = omega (arith, c .before .before .before .loop .inv .1 .long, c .before .before .before .before .before .pre)
 
 slice-write-marks : tie.Need-slice-write-marks Inv-loop μ-loop
-slice-write-marks c = omega (arith, c .before .before .before .loop .inv .1 .long)
-
-add-i : tie.Need-add-i Inv-loop μ-loop
-add-i c = omega (arith, c .before .before .before .loop .inv .1 .long)
-
-loop-less : tie.Need-loop-less Inv-loop μ-loop
-loop-less c = omega (arith, c .before .before .before .loop .inv .1 .long)
+slice-write-marks c = omega (arith, c .before .before .before .loop .inv .1 .long, c .before .before .before .before .before .pre)
 
 loop-again : tie.Need-loop-again Inv-loop μ-loop
 loop-again c =
     let start = c .before .before .before .before .before in
-    let q = c .before .before .before .loop in (
-      omega (arith, q .inv .1 .long),
-      sweep-set (unmarked (start .args .mark)) (start .args .marks .now) (q .marks) (q .i) _ (q .inv .1) (omega arith)
-          (c .without-mark .ensures ∙ ap (unmarked (start .args .mark) (q .i)) (sweep-here (unmarked (start .args .mark)) (start .args .marks .now) (q .marks) (q .i) (q .inv .1) (q .i) (omega arith))),
+    let q = c .before .before .before .loop in let s = start .args in (
+      omega arith,
+      sweep-set (onlyAt isRow (unmarked (s .mark))) (s .marks .now) (q .marks) (q .r) _ (q .inv .1) (omega (arith, q .inv .1 .long, start .pre))
+          (c .without-mark .ensures ∙ ap (unmarked (s .mark) (q .r)) (sweep-here (onlyAt isRow (unmarked (s .mark))) (s .marks .now) (q .marks) (q .r) (q .inv .1) (q .r) (omega arith))
+          ∙ row-only (unmarked (s .mark)) (q .r) (getD (s .marks .now) (q .r) 0) (c .before .before .loop-test .taken)),
     )
 
 same-length : tie.Need-same-length Inv-loop μ-loop
@@ -52,9 +46,8 @@ same-length c = c .before .loop .inv .1 .long
 
 returns : tie.Need-returns Inv-loop μ-loop
 returns c =
-    let start = c .before .before .before in
-    let q = c .before .loop in sweep-end (unmarked (start .args .mark)) (start .args .marks .now) (q .marks) (q .i) (q .inv .1)
-    (λ k h. none-unmarked (start .args .mark) (start .args .marks .now) k (omega (arith, q .inv .1 .long, c .loop-test .left)))
+    let q = c .before .loop in let s = c .before .before .before .args in
+    sweep-end (onlyAt isRow (unmarked (s .mark))) (s .marks .now) (q .marks) (q .r) (q .inv .1) (λ k h. past-only (unmarked (s .mark)) k (getD (s .marks .now) k 0) (omega (arith, h, c .loop-test .left)))
 
 pub unmark-spec : {M : Type 1} → statement M
 unmark-spec =
@@ -68,8 +61,8 @@ unmark-spec =
     (λ c κs. search needs)
     mul-marks
     slice-write-marks
-    add-i
-    loop-less
+    (λ c. omega arith)
+    (λ c. omega arith)
     loop-again
     same-length
     returns)
