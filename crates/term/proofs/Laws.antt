@@ -9,6 +9,9 @@ pub use Rattle.term.proofs.Images.{variable-word, inside-is, inside-sma
 pub use Rattle.term.proofs.Clauses.{kind-symbol, kind-abstraction, kind-variable, kind-pattern, rank-symbol, rank-abstraction, rank-variable, rank-pattern, no-pattern, count-symbol, count-abstraction, count-variable, count-pattern, ident-variable, ident-pattern, inside-symbol, inside-abstraction, inside-pattern, head-clauses, abstraction-in-table, pattern-few}
 pub use Rattle.term.proofs.Clauses.{words-nothing, words-node, width-nothing, width-node, nesting-nothing, nesting-node, ranks-nothing, ranks-node, join-nothing-left, join-node, row-clauses, FormedNode, formed-nothing, formed-node, node-formed}
 pub use Rattle.term.proofs.Rows.{join-nothing, join-join, width-join, words-join, nesting-join, ranks-join, formed-join}
+-- The first trees of a row and the others.
+pub use Rattle.term.proofs.Rows.{firsts-join, others-join, firsts-others, width-firsts, width-others, formed-firsts, formed-others}
+pub use Rattle.term.proofs.Rows.{firsts-nothing, firsts-none, firsts-node, firsts-all, others-none, others-node, others-all}
 -- Words are uniquely readable, both ways.
 pub use Rattle.term.proofs.Rows.{Reads, read-words, words-read, words-unique}
 -- A list of words is good just where it is one tree within the limits.

@@ -47,47 +47,80 @@ ranks-join nothing g = omega arith
 ranks-join (node h kids rest) g = omega (arith, ranks-join rest g)
 
 -- ---- the first trees and the others
-firsts-join : (f g : Row) → firsts (width f) (f ⧺ g) ≡ f
+pub firsts-join : (f g : Row) → firsts (width f) (f ⧺ g) ≡ f
 unfolding _⧺_ firsts width
 firsts-join nothing nothing = refl
 firsts-join nothing (node h kids rest) = refl
 firsts-join (node h kids rest) g = ap (node h kids) (firsts-join rest g)
 
-others-join : (f g : Row) → others (width f) (f ⧺ g) ≡ g
+pub others-join : (f g : Row) → others (width f) (f ⧺ g) ≡ g
 unfolding _⧺_ others width
 others-join nothing nothing = refl
 others-join nothing (node h kids rest) = refl
 others-join (node h kids rest) g = others-join rest g
 
-firsts-others : (n : ℕ) (f : Row) → firsts n f ⧺ others n f ≡ f
+pub firsts-others : (n : ℕ) (f : Row) → firsts n f ⧺ others n f ≡ f
 unfolding _⧺_ firsts others
 firsts-others n nothing = refl
 firsts-others zero (node h kids rest) = refl
 firsts-others (suc n) (node h kids rest) = ap (node h kids) (firsts-others n rest)
 
-width-firsts : (n : ℕ) (f : Row) → n ≤ width f → width (firsts n f) ≡ n
+pub width-firsts : (n : ℕ) (f : Row) → n ≤ width f → width (firsts n f) ≡ n
 unfolding firsts width
 width-firsts n nothing h = omega arith
 width-firsts zero (node h kids rest) l = refl
 width-firsts (suc n) (node h kids rest) l = ap suc (width-firsts n rest (omega arith))
 
-width-others : (n m : ℕ) (f : Row) → width f ≡ n + m → width (others n f) ≡ m
+pub width-others : (n m : ℕ) (f : Row) → width f ≡ n + m → width (others n f) ≡ m
 unfolding others width
 width-others n m nothing h = omega arith
 width-others zero m (node h kids rest) e = omega arith
 width-others (suc n) m (node h kids rest) e = width-others n m rest (omega arith)
 
-formed-firsts : (n : ℕ) (f : Row) → Formed f → Formed (firsts n f)
+pub formed-firsts : (n : ℕ) (f : Row) → Formed f → Formed (firsts n f)
 unfolding firsts Formed
 formed-firsts n nothing p = tt
 formed-firsts zero (node h kids rest) p = tt
 formed-firsts (suc n) (node h kids rest) p = (p .0, p .1, p .2, formed-firsts n rest (p .3))
 
-formed-others : (n : ℕ) (f : Row) → Formed f → Formed (others n f)
+pub formed-others : (n : ℕ) (f : Row) → Formed f → Formed (others n f)
 unfolding others Formed
 formed-others n nothing p = tt
 formed-others zero (node h kids rest) p = p
 formed-others (suc n) (node h kids rest) p = formed-others n rest (p .3)
+
+-- the clauses of their definitions, and all trees of a row
+pub firsts-nothing : (n : ℕ) → firsts n nothing ≡ nothing
+unfolding firsts
+firsts-nothing n = refl
+
+pub firsts-none : (f : Row) → firsts 0 f ≡ nothing
+unfolding firsts
+firsts-none nothing = refl
+firsts-none (node h kids rest) = refl
+
+pub firsts-node : (n : ℕ) (h : Head) (kids rest : Row) → firsts (suc n) (node h kids rest) ≡ node h kids (firsts n rest)
+unfolding firsts
+firsts-node n h kids rest = refl
+
+pub others-none : (f : Row) → others 0 f ≡ f
+unfolding others
+others-none nothing = refl
+others-none (node h kids rest) = refl
+
+pub others-node : (n : ℕ) (h : Head) (kids rest : Row) → others (suc n) (node h kids rest) ≡ others n rest
+unfolding others
+others-node n h kids rest = refl
+
+pub firsts-all : (f : Row) → firsts (width f) f ≡ f
+unfolding firsts width
+firsts-all nothing = refl
+firsts-all (node h kids rest) = ap (node h kids) (firsts-all rest)
+
+pub others-all : (f : Row) → others (width f) f ≡ nothing
+unfolding others width
+others-all nothing = refl
+others-all (node h kids rest) = others-all rest
 
 -- ---- what is written is read
 abbrev before : Row → Got → Got
