@@ -6,6 +6,7 @@ mod Places
 mod Constraints
 mod Words
 mod Lowest
+mod Fronts
 mod Accepted
 mod Above
 mod Standing

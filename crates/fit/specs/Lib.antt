@@ -4,5 +4,6 @@ pub mod Constraint
 pub mod Match
 pub mod Dedukti
 pub mod Lowest
+pub mod Front
 pub mod Build
 pub mod told
