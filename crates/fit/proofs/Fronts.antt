@@ -7,11 +7,11 @@ use Prim.Native.Nat.{ℕ, zero, suc, _+_, _-_, _≤_, _<_, max}
 use native.Mathlib.Omega.{arith}
 use lib.Dec.{eqb, leb}
 use lib.ListN.{length, length-append}
-use borrow.Author.Tests.{le-leb, lt-leb, leb-true, leb-false, eq-eqb, ne-eqb}
+use borrow.Author.Tests.{le-leb, lt-leb, leb-true, leb-false, eqb-true, eq-eqb, ne-eqb}
 use Rattle.term.specs.declared.check.Checked.the-variants.{Good}
 use Rattle.term.specs.Word.{Head, symbol, abstraction, variable, pattern, word, count, pick, InTable}
 use Rattle.term.specs.Row.{Row, nothing, node, width, words, nesting, ranks, Formed, _⧺_, firsts, others}
-use Rattle.term.proofs.Laws.{never, count-symbol, width-nothing, width-node, words-node, words-join, nesting-node, nesting-join, ranks-node, ranks-join, rank-symbol, join-nothing, join-nothing-left, formed-node, node-formed, firsts-others, width-firsts, width-others, formed-firsts, firsts-nothing, firsts-none, firsts-node, firsts-all, others-none, others-node, symbol-table, symbol-few}
+use Rattle.term.proofs.Laws.{never, and-left, and-right, count-symbol, width-nothing, width-node, words-node, words-join, nesting-node, nesting-join, ranks-node, ranks-join, rank-symbol, join-nothing, join-nothing-left, formed-node, node-formed, firsts-others, width-firsts, width-others, formed-firsts, firsts-nothing, firsts-none, firsts-node, firsts-all, others-none, others-node, symbol-table, symbol-few}
 use Rattle.term.specs.Renumber.{inside}
 use Rattle.book.specs.Rule.{rootSymbol, sideLimits}
 use Rattle.book.specs.Book.{Rule, checkBook, ruleAt}
@@ -316,3 +316,38 @@ uncovered-none j b kids rest (variable i) ts rs u w e =
     rw (front-variable (count (symbol j b)) i ts rs) (other-head (symbol j b) (variable i) kids rest ts rs u (formed-node (variable i) ts rs w .table) (λ z. never (cc)))
 uncovered-none j b kids rest (pattern i c) ts rs u w e =
     rw (front-pattern (count (symbol j b)) i c ts rs) (other-head (symbol j b) (pattern i c) kids rest ts rs u (formed-node (pattern i c) ts rs w .table) (λ z. never (cc)))
+
+-- where it is covered the term's root is the same symbol, with no fewer arguments
+pub record CoveredAs (j b : ℕ) (g : Head) : Type 0 where
+  pub arguments : ℕ
+  pub few : b ≤ arguments
+  pub is : g ≡ symbol j arguments
+
+pub covered-as : (j b : ℕ) (kids rest : Left) (g : Head) → covers (part (symbol j b) kids rest) g ≡ true → CoveredAs j b g
+unfolding covers
+covered-as j b kids rest (symbol i a) e =
+    record {
+      arguments = a;
+      few = leb-true b a (and-right (eqb j i) (leb b a) e);
+      is = ap (λ (x : ℕ). symbol x a) (sym (eqb-true j i (and-left (eqb j i) (leb b a) e)));
+    }
+covered-as j b kids rest abstraction e = never (cc)
+covered-as j b kids rest (variable i) e = never (cc)
+covered-as j b kids rest (pattern i c) e = never (cc)
+
+covers-itself : (j b : ℕ) (kids rest : Left) (g : Head) → symbol j b ≡ g → covers (part (symbol j b) kids rest) g ≡ true
+covers-itself j b kids rest g e = rw (← e, covers-symbol j b j b kids rest, eq-eqb j j refl, le-leb b b (omega arith))
+
+-- where a covered root has just as many arguments, matching is as before
+pub as-before : (j b : ℕ) (kids rest : Left) (g : Head) (ts rs : Row) → InTable (symbol j b) → Formed (node g ts rs) → (covers (part (symbol j b) kids rest) g ≡ true → symbol j b ≡ g)
+    → matchingFront (part (symbol j b) kids rest) (node g ts rs) ≡ matching (part (symbol j b) kids rest) (node g ts rs)
+as-before j b kids rest g ts rs u w s = go (covers (part (symbol j b) kids rest) g) refl
+  where
+    go : (c : Bool) → covers (part (symbol j b) kids rest) g ≡ c → matchingFront (part (symbol j b) kids rest) (node g ts rs) ≡ matching (part (symbol j b) kids rest) (node g ts rs)
+    go true e =
+        matching-front (part (symbol j b) kids rest) (node g ts rs)
+        ∙ ap (λ (n : ℕ). matching (part (symbol j b) kids rest) (front n (node g ts rs))) (root-arguments (symbol j b) kids rest ∙ ap count (s e))
+        ∙ ap (matching (part (symbol j b) kids rest)) (front-same g ts rs w)
+    go false e =
+        uncovered-none j b kids rest g ts rs u w e
+        ∙ sym (other-head (symbol j b) g kids rest ts rs u (formed-node g ts rs w .table) (λ z. never (let y = covers-itself j b kids rest g z in cc)))

@@ -55,4 +55,4 @@ pub use Rattle.fit.proofs.Fronts.{front-nothing, front-symbol, front-fe
 pub use Rattle.fit.proofs.Fronts.{front-same, width-front, front-formed, front-within, front-body, front-and-aside, width-aside}
 pub use Rattle.fit.proofs.Fronts.{Through, through-argument, through-child, tree-front, under-front, treeAt-front, shape-front, through-each}
 -- The root of a left side, and that it does not fit where the term's root is not covered.
-pub use Rattle.fit.proofs.Fronts.{SymbolRoot, accepted-root, covers-symbol, other-word, uncovered-none}
+pub use Rattle.fit.proofs.Fronts.{SymbolRoot, accepted-root, covers-symbol, other-word, uncovered-none, CoveredAs, covered-as, as-before}
