@@ -2,7 +2,7 @@
 use mathlib.Core.Path.{_≡_, refl, sym, ap, ap₂, _∙_}
 use mathlib.Core.Bool.{Bool, true, false, _&&_}
 use mathlib.Core.List.{List, [], _∷_, _++_}
-use mathlib.Core.Option.{Option, none, some}
+use mathlib.Core.Option.{none, some}
 use Prim.Native.Nat.{ℕ, zero, suc, _+_, _-_, _≤_, _<_, max}
 use native.Mathlib.Omega.{arith}
 use lib.Dec.{eqb, leb}
@@ -11,16 +11,16 @@ use borrow.Author.Tests.{le-leb, lt-leb, leb-true, leb-false, eqb-true, eq-eqb, 
 use Rattle.term.specs.declared.check.Checked.the-variants.{Good}
 use Rattle.term.specs.Word.{Head, symbol, abstraction, variable, pattern, word, count, pick, InTable}
 use Rattle.term.specs.Row.{Row, nothing, node, width, words, nesting, ranks, Formed, _⧺_, firsts, others}
-use Rattle.term.proofs.Laws.{never, and-left, and-right, count-symbol, width-nothing, width-node, words-node, words-join, nesting-node, nesting-join, ranks-node, ranks-join, rank-symbol, join-nothing, join-nothing-left, formed-node, node-formed, firsts-others, width-firsts, width-others, formed-firsts, firsts-nothing, firsts-none, firsts-node, firsts-all, others-none, others-node, symbol-table, symbol-few}
+use Rattle.term.proofs.Laws.{never, and-left, and-right, count-symbol, width-nothing, width-node, words-node, words-join, nesting-node, nesting-join, ranks-node, ranks-join, rank-symbol, join-nothing, join-nothing-left, formed-node, node-formed, firsts-others, width-firsts, width-others, formed-firsts, firsts-nothing, firsts-node, firsts-all, others-node, symbol-table, symbol-few}
 use Rattle.term.specs.Renumber.{inside}
 use Rattle.book.specs.Rule.{rootSymbol, sideLimits}
 use Rattle.book.specs.Book.{Rule, checkBook, ruleAt}
-use Rattle.book.proofs.Laws.{RuleFacts, book-rule, root-nothing, root-abstraction, root-variable, root-pattern}
+use Rattle.book.proofs.Laws.{book-rule, root-nothing, root-abstraction, root-variable, root-pattern}
 use Rattle.fit.specs.Left.{Left, end, hole, part, leftOf, wide}
 use Rattle.fit.specs.Fit.{WithinTerm, IsBody, found, matching}
 use Rattle.fit.specs.Match.{leftIn}
-use Rattle.fit.specs.Constraint.{Place, tree, childrenOf, under, treeAt, isHead, shapeFits, Occurrence, occurrences}
-use Rattle.fit.specs.Front.{rootArguments, front, aside, asideArguments, withArguments, matchingFront, symbolCovered, covers}
+use Rattle.fit.specs.Constraint.{Place, tree, childrenOf, under, treeAt, isHead, shapeFits, occurrences}
+use Rattle.fit.specs.Front.{rootArguments, front, aside, asideArguments, withArguments, matchingFront, covers}
 use Rattle.fit.proofs.Basics.{same-word}
 use Rattle.fit.proofs.Accepted.{tree-of}
 use Rattle.fit.proofs.Above.{Each, each-join}
