@@ -140,7 +140,7 @@ good-then : (book : List ℕ) (number : ℕ) (rows : List RuleRow) → ((n : ℕ
 good-then book number rows g a none e = a
 good-then book number rows g a (some rule) e = (g number rule e, a)
 
-good-rows : (book : List ℕ) → ((n : ℕ) (rule : Rule) → ruleAt book n ≡ some rule → GoodRule (rule .vars) (leftIn rule)) → (more number : ℕ) → AllGood (bookRows book number more)
+pub good-rows : (book : List ℕ) → ((n : ℕ) (rule : Rule) → ruleAt book n ≡ some rule → GoodRule (rule .vars) (leftIn rule)) → (more number : ℕ) → AllGood (bookRows book number more)
 unfolding bookRows
 good-rows book g zero number = tt
 good-rows book g (suc more) number = good-then book number (bookRows book (suc number) more) g (good-rows book g more (suc number)) (ruleAt book number) refl

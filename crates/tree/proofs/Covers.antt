@@ -34,7 +34,7 @@ waiting-before p [] vs w = absurd w
 waiting-before p (u ∷ us) vs (inl w) = inl w
 waiting-before p (u ∷ us) vs (inr w) = inr (waiting-before p us vs w)
 
-waiting-after : (p : Place) (us vs : List Uncovered) → Waiting p vs → Waiting p (us ++ vs)
+pub waiting-after : (p : Place) (us vs : List Uncovered) → Waiting p vs → Waiting p (us ++ vs)
 waiting-after p [] vs w = w
 waiting-after p (u ∷ us) vs w = inr (waiting-after p us vs w)
 
@@ -58,7 +58,7 @@ waiting-marked p (u ∷ us) (suc n) (inr w) = go (waiting-marked p us n w)
     go (inl x) = inl (inr x)
     go (inr x) = inr x
 
-child-waits : (p : Place) (more i j : ℕ) → i ≤ j → j < i + more → Waiting (j ∷ p) (childrenFrom p i more)
+pub child-waits : (p : Place) (more i j : ℕ) → i ≤ j → j < i + more → Waiting (j ∷ p) (childrenFrom p i more)
 unfolding childrenFrom
 child-waits p zero i j l h = absurd (omega arith)
 child-waits p (suc more) i j l h = go (decLe (suc i) j) (λ q. child-waits p more (suc i) j q (omega arith))
@@ -67,7 +67,7 @@ child-waits p (suc more) i j l h = go (decLe (suc i) j) (λ q. child-waits p mor
     go (yes q) r = inr (r q)
     go (no q) r = let z : i ≡ j = omega arith in inl (ap (_∷ p) z, refl)
 
-children-covered : (us : List Uncovered) (p : Place) (c : ℕ) → ((j : ℕ) → j < c → Waiting (j ∷ p) us) → (i : ℕ) (k : Left) → i + wide k ≤ c → Covered us p i k
+pub children-covered : (us : List Uncovered) (p : Place) (c : ℕ) → ((j : ℕ) → j < c → Waiting (j ∷ p) us) → (i : ℕ) (k : Left) → i + wide k ≤ c → Covered us p i k
 children-covered us p c w i end l = tt
 children-covered us p c w i (hole x ys rest) l =
     (waiting-within (i ∷ p) us (w i (omega (arith, l, wide-hole x ys rest))), children-covered us p c w (suc i) rest (omega (arith, l, wide-hole x ys rest)))

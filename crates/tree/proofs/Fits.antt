@@ -54,15 +54,15 @@ sub-end : (t : Row) (p : Place) → subFits t p end ≡ true
 unfolding subFits
 sub-end t p = refl
 
-sub-hole : (t : Row) (p : Place) (x : ℕ) (ys : List ℕ) (rest : Left) → subFits t p (hole x ys rest) ≡ true
+pub sub-hole : (t : Row) (p : Place) (x : ℕ) (ys : List ℕ) (rest : Left) → subFits t p (hole x ys rest) ≡ true
 unfolding subFits
 sub-hole t p x ys rest = refl
 
-sub-part : (t : Row) (p : Place) (h : Head) (kids rest : Left) → subFits t p (part h kids rest) ≡ isHead h (treeAt t p) && shapeFits t p 0 kids
+pub sub-part : (t : Row) (p : Place) (h : Head) (kids rest : Left) → subFits t p (part h kids rest) ≡ isHead h (treeAt t p) && shapeFits t p 0 kids
 unfolding subFits
 sub-part t p h kids rest = refl
 
-child-open : (t : Row) (left : Left) (p : Place) (i more : ℕ) → openFits t left (childrenFrom p i (suc more)) ≡ subFits t (i ∷ p) (sub (subsUnder left p) i) && openFits t left (childrenFrom p (suc i) more)
+pub child-open : (t : Row) (left : Left) (p : Place) (i more : ℕ) → openFits t left (childrenFrom p i (suc more)) ≡ subFits t (i ∷ p) (sub (subsUnder left p) i) && openFits t left (childrenFrom p (suc i) more)
 unfolding openFits childrenFrom
 child-open t left p i more = rw (sub-child left i p)
 
@@ -80,7 +80,7 @@ children-open t left p i (part h kids rest) e =
     let a = from-part (subsUnder left p) i h kids rest e in
     rw (wide-part h kids rest, child-open t left p i (wide rest), a .0, sub-part t (i ∷ p) h kids end, shape-part t p i h kids rest, children-open t left p (suc i) rest (a .1))
 
-no-children-open : (t : Row) (left : Left) (p : Place) (i more : ℕ) → subsFrom i (subsUnder left p) ≡ end → openFits t left (childrenFrom p i more) ≡ true
+pub no-children-open : (t : Row) (left : Left) (p : Place) (i more : ℕ) → subsFrom i (subsUnder left p) ≡ end → openFits t left (childrenFrom p i more) ≡ true
 no-children-open t left p i zero e = no-child-open t left p i
 no-children-open t left p i (suc more) e =
     let a = from-end (subsUnder left p) i e in

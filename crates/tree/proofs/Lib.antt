@@ -10,6 +10,8 @@ mod Covers
 mod Firsts
 mod Finds
 mod Books
+mod RootHeads
+mod Roots
 mod Layouts
 mod Walks
 mod Ways
