@@ -14,7 +14,7 @@ use Rattle.tree.specs.Path.{Uncovered, OnPath, numberIn}
 use Rattle.tree.specs.told.Covered.{Within}
 use Rattle.tree.specs.Rows.{subsUnder, lowestOpen}
 use Rattle.tree.specs.Tree.{LeafVariable}
-use Rattle.tree.specs.Compile.{variableAt, variablesFrom, leafOf}
+use Rattle.tree.specs.Compile.{variableAt, variablesFrom, leafNodeOf, leafOf}
 use Rattle.tree.specs.Layout.{variableWords, layout}
 use Rattle.compiler.specs.told.Tables.{isFree, occurrenceWords, variableSpot, leafFrom, leafWords}
 use Rattle.compiler.specs.told.Stands.{RowStands, Stands}
@@ -76,7 +76,7 @@ module _ (book fixed nums marks : List ℕ) (count : ℕ) (path : OnPath) (s : S
 
   leaf-words : (at : ℕ) → layout at (leafOf us (rowOfRule r rule)) ≡ 1 ∷ r ∷ rule .vars ∷ variableWords (variablesFrom us os 0 (rule .vars))
   leaf-words at =
-      ap (layout at) (leaf-of us (rowOfRule r rule)) ∙ leaf-laid at r (variablesFrom us os 0 (rule .vars))
+      ap (layout at) (leaf-of us (rowOfRule r rule)) ∙ leaf-laid at (leafNodeOf us (rowOfRule r rule))
       ∙ ap (λ (n : ℕ). 1 ∷ r ∷ n ∷ variableWords (variablesFrom us os 0 (rule .vars))) (many-variables us os (rule .vars) 0)
 
   pub leaf-is : (at : ℕ) → leafWords fixed nums r ≡ layout at (leafOf us (rowOfRule r rule))

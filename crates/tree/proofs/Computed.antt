@@ -56,7 +56,7 @@ exchanged = (refl, refl)
 unfoldable mutual
   leavesIn : Tree → ℕ
   leavesIn Fail = 0
-  leavesIn (Leaf rule vs) = 1
+  leavesIn (Leaf leaf) = 1
   leavesIn (Switch n cs default) = leavesCases cs + leavesIn default
   leavesIn (Closed n ys ifYes ifNo) = leavesIn ifYes + leavesIn ifNo
   leavesIn (Same n m ys zs ifYes ifNo) = leavesIn ifYes + leavesIn ifNo
@@ -68,7 +68,7 @@ unfoldable mutual
 unfoldable mutual
   failsIn : Tree → ℕ
   failsIn Fail = 1
-  failsIn (Leaf rule vs) = 0
+  failsIn (Leaf leaf) = 0
   failsIn (Switch n cs default) = failsCases cs + failsIn default
   failsIn (Closed n ys ifYes ifNo) = failsIn ifYes + failsIn ifNo
   failsIn (Same n m ys zs ifYes ifNo) = failsIn ifYes + failsIn ifNo

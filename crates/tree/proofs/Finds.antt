@@ -19,7 +19,7 @@ use Rattle.tree.specs.told.Covered.{Within}
 use Rattle.tree.specs.Path.{Uncovered, OnPath, placeNumbered, enter}
 use Rattle.tree.specs.Rows.{RuleRow, subsUnder, headAt, lowestOpen, constraintsLeft, size}
 use Rattle.tree.specs.Compile.{without, addHead, heads, caseRows, defaultRows, entering, holding, rowsWithout, testOf, variableAt, variablesFrom, leafOf, casesOf, nodeOf, step, compile}
-use Rattle.tree.specs.Find.{PartAt, partOf, enterPart, bodyFor, bodyOr, leafBody}
+use Rattle.tree.specs.Find.{PartAt, partOf, enterPart, bodyFor, bodyOr, leafBody, leafFitting}
 use Rattle.tree.proofs.Subs.{from-start, subs-root, head-headed, Full, full-at}
 use Rattle.tree.proofs.Parts.{partsAt, part-of, enter-parts, body-number}
 use Rattle.tree.proofs.Fits.{OpenAt, open-at, variables-fit}
@@ -34,7 +34,7 @@ use Rattle.tree.proofs.Firsts.{Live, AllLive, rowFits, firstBody, rowBo
 unfoldable mutual
   pub find : Tree → List PartAt → Option Fitting
   find Fail ps = none
-  find (Leaf rule vs) ps = some (record { number = rule; bodies = leafBody ps vs })
+  find (Leaf leaf) ps = some (leafFitting ps leaf)
   find (Switch n cs default) ps = findCase cs n ps (find default ps)
   find (Closed n ys ifYes ifNo) ps = pick (isSome (bodyFor ps n ys)) (find ifYes ps) (find ifNo ps)
   find (Same n m ys zs ifYes ifNo) ps = pick (sameO (bodyFor ps n ys) (bodyFor ps m zs)) (find ifYes ps) (find ifNo ps)

@@ -6,7 +6,7 @@ use native.Mathlib.Omega.{arith}
 use lib.ListN.{length, drop, length-append, length-drop}
 use lib.Seq.{drop-drop, drop-append-seam}
 use Rattle.term.specs.Word.{Head, word}
-use Rattle.tree.specs.Tree.{LeafVariable, Tree, Fail, Leaf, Switch, Closed, Same, Cases, NoCase, Case}
+use Rattle.tree.specs.Tree.{LeafVariable, LeafNode, Tree, Fail, Leaf, Switch, Closed, Same, Cases, NoCase, Case}
 use Rattle.tree.specs.Compile.{bookTree}
 use Rattle.tree.specs.Layout.{treeWords, variableWords, caseCount, long, longCases, caseHeads, layout, layoutCases}
 
@@ -35,9 +35,9 @@ pub heads-case : (at : ℕ) (h : Head) (x : Tree) (cs : Cases) → caseHeads at 
 unfolding caseHeads
 heads-case at h x cs = refl
 
-pub leaf-laid : (at number : ℕ) (vs : List LeafVariable) → layout at (Leaf number vs) ≡ 1 ∷ number ∷ length vs ∷ variableWords vs
+pub leaf-laid : (at : ℕ) (leaf : LeafNode) → layout at (Leaf leaf) ≡ 1 ∷ leaf .rule ∷ length (leaf .variables) ∷ variableWords (leaf .variables)
 unfolding layout
-leaf-laid at number vs = refl
+leaf-laid at leaf = refl
 
 pub fail-long : long Fail ≡ 1
 unfolding long
@@ -95,7 +95,7 @@ mutual
 
   pub length-layout : (at : ℕ) (t : Tree) → length (layout at t) ≡ long t
   length-layout at Fail = refl
-  length-layout at (Leaf rule vs) = omega arith
+  length-layout at (Leaf leaf) = omega arith
   length-layout at (Switch n cs default) =
       switch-length (at + 4 + 2 * caseCount cs) cs default
       (length-cases (at + 4 + 2 * caseCount cs) cs) (length-layout (at + 4 + 2 * caseCount cs + longCases cs) default)
@@ -113,7 +113,7 @@ mutual
 pub long-some : (t : Tree) → 1 ≤ long t
 unfolding long
 long-some Fail = omega arith
-long-some (Leaf rule vs) = omega arith
+long-some (Leaf leaf) = omega arith
 long-some (Switch n cs default) = omega arith
 long-some (Closed n ys ifYes ifNo) = omega arith
 long-some (Same n m ys zs ifYes ifNo) = omega arith
@@ -144,9 +144,10 @@ pub fail-lies : (table : List ℕ) (at : ℕ) → Lies table at Fail → (after 
 unfolding layout
 fail-lies table at l = l
 
-pub leaf-lies : (table : List ℕ) (at rule : ℕ) (vs : List LeafVariable) → Lies table at (Leaf rule vs) → (after : List ℕ) × (drop at table ≡ 1 ∷ rule ∷ length vs ∷ (variableWords vs ++ after))
+pub leaf-lies : (table : List ℕ) (at : ℕ) (leaf : LeafNode) → Lies table at (Leaf leaf)
+    → (after : List ℕ) × (drop at table ≡ 1 ∷ leaf .rule ∷ length (leaf .variables) ∷ (variableWords (leaf .variables) ++ after))
 unfolding layout
-leaf-lies table at rule vs l = l
+leaf-lies table at leaf l = l
 
 -- the trees of the cases lie one after the other
 abbrev pub CasesLie : List ℕ → ℕ → Cases → Type 0

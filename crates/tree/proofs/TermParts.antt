@@ -14,7 +14,7 @@ use Rattle.term.proofs.Laws.{never, words-nothing, width-nothing, width-node, n
 use Rattle.fit.specs.Fit.{WithinTerm, IsBody}
 use Rattle.fit.specs.Constraint.{childrenOf, bodyHere}
 use Rattle.fit.proofs.Laws.{kids-within, rest-within, first-within, part-body, children-nothing, children-node, body-nothing, body-node}
-use Rattle.tree.specs.Tree.{LeafVariable, countsOf}
+use Rattle.tree.specs.Tree.{LeafVariable}
 use Rattle.tree.specs.Find.{PartAt, rootPart, partOf, markedPart, childParts, insideOf, enterPart, bodyFor, bodyOr, leafBody}
 use Rattle.tree.proofs.Walks.{AllSound}
 
@@ -96,8 +96,3 @@ leaf-terms ps a [] s x h = absurd (omega arith)
 leaf-terms ps a (v ∷ vs) s zero h =
     given-term (partOf (v .at) ps .depth) (v .list) (s .0 .list) (partOf (v .at) ps .part) (part-term (v .at) ps a (s .0 .here)) (s .0 .body)
 leaf-terms ps a (v ∷ vs) s (suc x) h = leaf-terms ps a vs (s .1) x (omega arith)
-
-pub length-counts : (vs : List LeafVariable) → length (countsOf vs) ≡ length vs
-unfolding countsOf
-length-counts [] = refl
-length-counts (v ∷ vs) = ap suc (length-counts vs)

@@ -8,11 +8,11 @@ use lib.Dec.{eqb}
 use lib.ListN.{length, getD, length-append}
 use Rattle.term.specs.Word.{Head, word, count, pick}
 use Rattle.book.specs.Book.{ruleAt}
-use Rattle.fit.specs.Constraint.{Place, Occurrence, occurrences, firstOf, Constraint, closedAt, sameAt}
+use Rattle.fit.specs.Constraint.{Place, Occurrence, firstOf, Constraint, closedAt, sameAt}
 use Rattle.tree.specs.Tree.{Tree, Fail, Leaf, Switch, Cases, NoCase, Case}
 use Rattle.tree.specs.Path.{Uncovered, OnPath, placeNumbered, numberIn, enter, start}
 use Rattle.tree.specs.Rows.{RuleRow, headAt, lowestOpen, constraintsLeft}
-use Rattle.tree.specs.Compile.{without, addHead, heads, caseRows, defaultRows, entering, holding, rowsWithout, testOf, variableAt, variablesFrom, leafOf, casesOf, nodeOf, step, compile, rowThen, bookRows, bookTree}
+use Rattle.tree.specs.Compile.{without, addHead, heads, caseRows, defaultRows, entering, holding, rowsWithout, testOf, variableAt, variablesFrom, leafNodeOf, leafOf, casesOf, nodeOf, step, compile, rowThen, bookRows, bookTree}
 use Rattle.tree.specs.Layout.{caseCount, long, layout}
 use Rattle.tree.proofs.Subs.{Full}
 use Rattle.tree.proofs.Finds.{InTables, tables-add}
@@ -52,7 +52,7 @@ pub from-more : (us : List Uncovered) (os : List Occurrence) (x more : ℕ) → 
 unfolding variablesFrom
 from-more us os x more = refl
 
-pub leaf-of : (us : List Uncovered) (row : RuleRow) → leafOf us row ≡ Leaf (row .number) (variablesFrom us (occurrences [] 0 0 (row .left)) 0 (row .vars))
+pub leaf-of : (us : List Uncovered) (row : RuleRow) → leafOf us row ≡ Leaf (leafNodeOf us row)
 unfolding leafOf
 leaf-of us row = refl
 

@@ -11,8 +11,8 @@ use Rattle.term.specs.Renumber.{GoodList}
 use Rattle.term.specs.Part.{isSome, sameO}
 use Rattle.fit.specs.Constraint.{isHead}
 use Rattle.fit.specs.Lowest.{Fitting}
-use Rattle.tree.specs.Tree.{LeafVariable, countsOf, Tree, Fail, Leaf, Switch, Closed, Same, Cases, NoCase, Case}
-use Rattle.tree.specs.Find.{PartAt, partOf, enterPart, bodyFor, leafBody}
+use Rattle.tree.specs.Tree.{LeafVariable, LeafNode, Tree, Fail, Leaf, Switch, Closed, Same, Cases, NoCase, Case}
+use Rattle.tree.specs.Find.{PartAt, partOf, enterPart, bodyFor, leafFitting}
 
 pub record SoundVariable (ps : List PartAt) (v : LeafVariable) : Type 0 where
   pub here : v .at < length ps
@@ -38,11 +38,11 @@ pub data NoneTaken (f : Row) : Cases → Type 0 where
   noCases : NoneTaken f NoCase
   otherCase : {h : Head} {x : Tree} {cs : Cases} → isHead h f ≡ false → NoneTaken f cs → NoneTaken f (Case h x cs)
 
--- the way through a tree, to what it finds. `vars` says how many variables a rule has, `fits` which counts it has.
-pub data Walks (vars : ℕ → ℕ) (fits : ℕ → List ℕ → Bool) : Tree → List PartAt → Option Fitting → Type 0 where
+-- the way through a tree, to what it finds. `vars` says how many variables a rule has, `fits` which Leaf is one of its own.
+pub data Walks (vars : ℕ → ℕ) (fits : LeafNode → Bool) : Tree → List PartAt → Option Fitting → Type 0 where
   fails : {ps : List PartAt} → Walks vars fits Fail ps none
-  ends : {ps : List PartAt} {rule : ℕ} {vs : List LeafVariable} → rule < 64 → length vs ≤ 16 → length vs ≡ vars rule → fits rule (countsOf vs) ≡ true → AllSound ps vs
-      → Walks vars fits (Leaf rule vs) ps (some (record { number = rule; bodies = leafBody ps vs }))
+  ends : {ps : List PartAt} {leaf : LeafNode} → leaf .rule < 64 → length (leaf .variables) ≤ 16 → length (leaf .variables) ≡ vars (leaf .rule) → fits leaf ≡ true → AllSound ps (leaf .variables)
+      → Walks vars fits (Leaf leaf) ps (some (leafFitting ps leaf))
   takes : {ps : List PartAt} {r : Option Fitting} {n : ℕ} {cs : Cases} {x default : Tree} → n < length ps → partOf n ps .entered ≡ false → Takes (partOf n ps .part) cs x
       → Walks vars fits x (enterPart n ps) r → Walks vars fits (Switch n cs default) ps r
   defaults : {ps : List PartAt} {r : Option Fitting} {n : ℕ} {cs : Cases} {default : Tree} → n < length ps → NoneTaken (partOf n ps .part) cs

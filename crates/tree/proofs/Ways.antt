@@ -20,11 +20,11 @@ use Rattle.fit.specs.Constraint.{Place, treeAt, isHead, shapeFits, Occurrence, 
 use Rattle.fit.specs.Match.{leftIn}
 use Rattle.fit.specs.Lowest.{Fitting, lowest}
 use Rattle.fit.proofs.Laws.{GoodRule, isMatch, Each, first-each, IsThere, Names, EachNames, constraints-name, FirstBody, matched-first, accepted-good, occurs-first, OneVariable, constraints-one, first-variable, Counted, rule-counted}
-use Rattle.tree.specs.Tree.{countsOf, Tree, Switch, Case}
+use Rattle.tree.specs.Tree.{countsOf, LeafNode, Tree, Switch, Case}
 use Rattle.tree.specs.told.Covered.{Within}
 use Rattle.tree.specs.Path.{Uncovered, OnPath, placeNumbered, numberIn, start}
 use Rattle.tree.specs.Rows.{RuleRow, headAt, lowestOpen, has, unstruck, constraintsLeft, size}
-use Rattle.tree.specs.Compile.{heads, inCase, caseRows, inDefault, defaultRows, entering, holding, rowsWithout, testOf, variableAt, variablesFrom, leafOf, casesOf, nodeOf, step, compile, rowThen, bookRows, bookTree}
+use Rattle.tree.specs.Compile.{heads, inCase, caseRows, inDefault, defaultRows, entering, holding, rowsWithout, testOf, variableAt, variablesFrom, leafNodeOf, leafOf, casesOf, nodeOf, step, compile, rowThen, bookRows, bookTree}
 use Rattle.tree.specs.Find.{rootPart, partOf, enterPart, bodyFor}
 use Rattle.tree.proofs.Parts.{depthAt, partsAt, part-of, depth-of, enter-parts, number-place, number-less, length-parts, body-number, DepthIs}
 use Rattle.tree.proofs.Fits.{openFits, enteredOf, OpenAt, open-at, variables-fit}
@@ -33,6 +33,7 @@ use Rattle.tree.proofs.Sizes.{case-less, default-less, yes-less, no-les
 use Rattle.tree.proofs.Knot.{compile-is}
 use Rattle.tree.proofs.Firsts.{Live, AllLive, rowFits, firstFit, live-entered, case-open, case-fits, first-case, NoHead, first-default, yes-row, first-yes, first-no}
 use Rattle.tree.proofs.Finds.{InTables, heads-tables, leaf-bodies, AllWithin, row-within, first-named, first-fits, entering-places}
+use Rattle.tree.proofs.TreeClauses.{many-variables}
 use Rattle.tree.proofs.Books.{AllGood, live-start, root-parts, start-open, depths-start, start-fits, firstMatch, first-match, match-lowest}
 use Rattle.tree.proofs.Walks.{SoundVariable, AllSound, SoundPlace, Takes, takesFirst, takesLater, NoneTaken, noCases, otherCase, Walks, fails, ends, takes, defaults, closedYes, closedNo, sameYes, sameNo}
 
@@ -64,15 +65,15 @@ unfolding constraintsLeft
 first-one path row c cs a e = rw e at (one-unstruck (path .held) (constraints (row .left)) a)
 
 -- what a rule of a book has
-pub record RowFacts (vars : ℕ → ℕ) (fits : ℕ → List ℕ → Bool) (row : RuleRow) : Type 0 where
+pub record RowFacts (vars : ℕ → ℕ) (fits : LeafNode → Bool) (row : RuleRow) : Type 0 where
   pub good : GoodRule (row .vars) (row .left)
   pub low : row .number < 64
   pub few : row .vars ≤ 16
   pub as-many : row .vars ≡ vars (row .number)
-  pub counts : (us : List Uncovered) → fits (row .number) (countsOf (variablesFrom us (occurrences [] 0 0 (row .left)) 0 (row .vars))) ≡ true
+  pub counts : (us : List Uncovered) → fits (leafNodeOf us row) ≡ true
   pub one : OneLength (constraints (row .left))
 
-module _ (vars : ℕ → ℕ) (fits : ℕ → List ℕ → Bool) (t : Row) (w : Formed t) (wide : width t ≡ 1) where
+module _ (vars : ℕ → ℕ) (fits : LeafNode → Bool) (t : Row) (w : Formed t) (wide : width t ≡ 1) where
   record Known (path : OnPath) (row : RuleRow) : Type 0 where
     live : Live (path .uncovered) row
     facts : RowFacts vars fits row
@@ -167,11 +168,6 @@ module _ (vars : ℕ → ℕ) (fits : ℕ → List ℕ → Bool) (t : Row) (w : 
   variables-sound us os i d g b f (suc more) y h =
       (variable-sound us os i d g y (b y) (firstOf y os) refl (h y (omega arith) (omega arith)) (f y), variables-sound us os i d g b f more (suc y) (λ z p q. h z (omega arith) (omega arith)))
 
-  variables-many : (us : List Uncovered) (os : List Occurrence) (more y : ℕ) → length (variablesFrom us os y more) ≡ more
-  unfolding variablesFrom
-  variables-many us os zero y = refl
-  variables-many us os (suc more) y = ap suc (variables-many us os more (suc y))
-
   some-match : (o : Option (ℕ → Row)) → isMatch o ≡ true → (b : ℕ → Row) × (o ≡ some b)
   some-match none e = never (cc)
   some-match (some b) e = (b, refl)
@@ -189,11 +185,11 @@ module _ (vars : ℕ → ℕ) (fits : ℕ → List ℕ → Bool) (t : Row) (w : 
       let m = some-match (matching (row .left) t) (sym (k .fit) ∙ row-fits path row e q) in
       let g = k .facts .good in
       let i = row-within path row (k .live) e in
-      let n : length (variablesFrom us os 0 (row .vars)) ≡ row .vars = variables-many us os (row .vars) 0 in
+      let n : length (variablesFrom us os 0 (row .vars)) ≡ row .vars = many-variables us os (row .vars) 0 in
       let few : length (variablesFrom us os 0 (row .vars)) ≤ 16 = omega (arith, n, k .facts .few) in
       let s = variables-sound us os i (row-depths path row k e) (row-lists row (k .facts)) (m .0) (λ x. matched-first (row .vars) (row .left) t (m .0) x (g .good) (g .one ∙ sym wide) w (m .1)) (row .vars) 0 (λ z a b. k .live .there z (omega arith)) in
       rw (first-fits t path row rows e q, ← leaf-bodies t us row (k .live) i)
-      (ends (k .facts .low) few (n ∙ k .facts .as-many) (k .facts .counts us) s)
+      (ends {leaf = leafNodeOf us row} (k .facts .low) few (n ∙ k .facts .as-many) (k .facts .counts us) s)
 
   -- ---- Closed and Same
   test-way : (us : List Uncovered) (c : Constraint) → Names (λ o. Within (o .place) us) c → Names (DepthIs t) c → Names GoodListIs c → (cs : List Constraint) → OneLength (c ∷ cs) → (a b : Tree) (r : Option Fitting)
@@ -350,9 +346,9 @@ varsOf (some rule) = rule .vars
 abbrev pub varsIn : List ℕ → ℕ → ℕ
 varsIn book number = varsOf (ruleAt book number)
 
--- what is asked of the counts at a Leaf holds for the rules of the book
-abbrev pub FitsBook : List ℕ → (ℕ → List ℕ → Bool) → Type 0
-FitsBook book fits = (number : ℕ) (rule : Rule) → ruleAt book number ≡ some rule → (ks : List ℕ) → length ks ≡ rule .vars → CountsAre (rule .left) 0 ks → fits number ks ≡ true
+-- what is asked of a Leaf holds for the rules of the book
+abbrev pub FitsBook : List ℕ → (LeafNode → Bool) → Type 0
+FitsBook book fits = (leaf : LeafNode) (rule : Rule) → ruleAt book (leaf .rule) ≡ some rule → length (leaf .variables) ≡ rule .vars → CountsAre (rule .left) 0 (countsOf (leaf .variables)) → fits leaf ≡ true
 
 one-length : (ws : List ℕ) (cs : List Constraint) → EachNames (Counted ws) cs → OneVariable cs → OneLength cs
 one-length ws [] a b = tt
@@ -371,12 +367,7 @@ counts-are ws us os a zero y h = tt
 counts-are ws us os a (suc more) y h =
     (first-count ws us os a y (firstOf y os) refl (h y (omega arith) (omega arith)), counts-are ws us os a more (suc y) (λ z p q. h z (omega arith) (omega arith)))
 
-counts-many : (us : List Uncovered) (os : List Occurrence) (more y : ℕ) → length (countsOf (variablesFrom us os y more)) ≡ more
-unfolding countsOf variablesFrom
-counts-many us os zero y = refl
-counts-many us os (suc more) y = ap suc (counts-many us os more (suc y))
-
-module _ (book : List ℕ) (accepted : checkBook book ≡ Good) (fits : ℕ → List ℕ → Bool) (ok : FitsBook book fits) where
+module _ (book : List ℕ) (accepted : checkBook book ≡ Good) (fits : LeafNode → Bool) (ok : FitsBook book fits) where
   rule-facts : (number : ℕ) (rule : Rule) → ruleAt book number ≡ some rule → RowFacts (varsIn book) fits (record { number = number; vars = rule .vars; left = leftIn rule })
   rule-facts number rule e =
       let f = book-rule book number rule accepted e in
@@ -387,7 +378,7 @@ module _ (book : List ℕ) (accepted : checkBook book ≡ Good) (fits : ℕ → 
         low = omega (arith, rule-number book number rule e, book-rules book accepted .1);
         few = f .few;
         as-many = sym (ap varsOf e);
-        counts = λ us. ok number rule e (countsOf (variablesFrom us (occurrences [] 0 0 (leftIn rule)) 0 (rule .vars))) (counts-many us (occurrences [] 0 0 (leftIn rule)) (rule .vars) 0)
+        counts = λ us. ok (leafNodeOf us (record { number = number; vars = rule .vars; left = leftIn rule })) rule e (many-variables us (occurrences [] 0 0 (leftIn rule)) (rule .vars) 0)
             (counts-are (rule .left) us (occurrences [] 0 0 (leftIn rule)) c (rule .vars) 0 (λ z p q. occurs-first z [] 0 0 (leftIn rule) (g .all z (omega arith))));
         one = one-length (rule .left) (constraints (leftIn rule)) (constraints-name (Counted (rule .left)) (leftIn rule) c) (constraints-one (leftIn rule));
       }

@@ -9,7 +9,7 @@ use Rattle.term.specs.Word.{Head, word, count, pick}
 use Rattle.book.specs.Book.{Rule, ruleAt}
 use Rattle.fit.specs.Constraint.{Place, Occurrence, occurrences, firstOf, Constraint, closedAt, sameAt}
 use Rattle.fit.specs.Match.{leftIn}
-use Rattle.tree.specs.Tree.{LeafVariable, Tree, Fail, Leaf, Switch, Closed, Same, Cases, NoCase, Case}
+use Rattle.tree.specs.Tree.{LeafVariable, LeafNode, Tree, Fail, Leaf, Switch, Closed, Same, Cases, NoCase, Case}
 use Rattle.tree.specs.Path.{Uncovered, OnPath, placeNumbered, numberIn, enter, start}
 use Rattle.tree.specs.Rows.{RuleRow, headAt, lowestOpen, has, constraintsLeft, size}
 
@@ -72,8 +72,11 @@ unfoldable pub variablesFrom : List Uncovered → List Occurrence → ℕ → �
 variablesFrom us os x zero = []
 variablesFrom us os x (suc more) = variableAt us (firstOf x os) ∷ variablesFrom us os (suc x) more
 
+abbrev pub leafNodeOf : List Uncovered → RuleRow → LeafNode
+leafNodeOf us row = record { rule = row .number; variables = variablesFrom us (occurrences [] 0 0 (row .left)) 0 (row .vars) }
+
 unfoldable pub leafOf : List Uncovered → RuleRow → Tree
-leafOf us row = Leaf (row .number) (variablesFrom us (occurrences [] 0 0 (row .left)) 0 (row .vars))
+leafOf us row = Leaf (leafNodeOf us row)
 
 -- ---- the tree of a list of rows, made of smaller trees
 unfoldable pub casesOf : (OnPath → List RuleRow → Tree) → OnPath → List RuleRow → ℕ → List Head → Cases

@@ -8,7 +8,8 @@ use Rattle.term.specs.Word.{pick}
 use Rattle.term.specs.Row.{Row, nothing, node, words}
 use Rattle.term.specs.Renumber.{inside}
 use Rattle.fit.specs.Constraint.{childrenOf, bodyHere}
-use Rattle.tree.specs.Tree.{LeafVariable}
+use Rattle.fit.specs.Lowest.{Fitting}
+use Rattle.tree.specs.Tree.{LeafVariable, LeafNode}
 
 -- the part of the term at an uncovered place, the abstractions passed on the way to it, and whether it was entered
 pub record PartAt : Type 0 where
@@ -56,6 +57,10 @@ unfoldable pub leafBody : List PartAt → List LeafVariable → ℕ → Row
 leafBody ps [] x = nothing
 leafBody ps (v ∷ vs) zero = bodyOr (bodyFor ps (v .at) (v .list))
 leafBody ps (v ∷ vs) (suc x) = leafBody ps vs x
+
+-- what is found at a Leaf: its rule, with the bodies
+abbrev pub leafFitting : List PartAt → LeafNode → Fitting
+leafFitting ps leaf = record { number = leaf .rule; bodies = leafBody ps (leaf .variables) }
 
 -- the places, and the words below those that were not entered
 unfoldable pub total : List PartAt → ℕ

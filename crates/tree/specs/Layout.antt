@@ -19,7 +19,7 @@ caseCount (Case h x cs) = suc (caseCount cs)
 unfoldable mutual
   pub long : Tree → ℕ
   long Fail = 1
-  long (Leaf rule vs) = 3 + length (variableWords vs)
+  long (Leaf leaf) = 3 + length (variableWords (leaf .variables))
   long (Switch n cs default) = 4 + 2 * caseCount cs + longCases cs + long default
   long (Closed n ys ifYes ifNo) = 5 + length ys + long ifYes + long ifNo
   long (Same n m ys zs ifYes ifNo) = 6 + length ys + length zs + long ifYes + long ifNo
@@ -37,7 +37,7 @@ caseHeads at (Case h x cs) = word h ∷ at ∷ caseHeads (at + long x) cs
 unfoldable mutual
   pub layout : ℕ → Tree → List ℕ
   layout at Fail = 0 ∷ []
-  layout at (Leaf rule vs) = 1 ∷ rule ∷ length vs ∷ variableWords vs
+  layout at (Leaf leaf) = 1 ∷ leaf .rule ∷ length (leaf .variables) ∷ variableWords (leaf .variables)
   layout at (Switch n cs default) =
       let next = at + 4 + 2 * caseCount cs in
       2 ∷ n ∷ caseCount cs ∷ (caseHeads next cs ++ ((next + longCases cs) ∷ (layoutCases next cs ++ layout (next + longCases cs) default)))

@@ -14,12 +14,17 @@ unfoldable pub countsOf : List LeafVariable → List ℕ
 countsOf [] = []
 countsOf (v ∷ vs) = length (v .list) ∷ countsOf vs
 
--- places by their numbers. Leaf: the rule, its variables. Switch: the place, the cases, the default. Closed: the place, the list, yes, no.
+-- what a Leaf holds: the rule's number, and its variables
+pub record LeafNode : Type 0 where
+  pub rule : ℕ
+  pub variables : List LeafVariable
+
+-- places by their numbers. Switch: the place, the cases, the default. Closed: the place, the list, yes, no.
 -- Same: the first occurrence's place and the later one's, their lists, yes, no.
 mutual
   pub data Tree : Type 0 where
     Fail : Tree
-    Leaf : ℕ → List LeafVariable → Tree
+    Leaf : LeafNode → Tree
     Switch : ℕ → Cases → Tree → Tree
     Closed : ℕ → List ℕ → Tree → Tree → Tree
     Same : ℕ → ℕ → List ℕ → List ℕ → Tree → Tree → Tree

@@ -15,6 +15,7 @@ use Rattle.term.specs.Check.{IsTerm, check, termLimits}
 use Rattle.term.proofs.Laws.{good-tree, term-part, part-begins, words-node}
 use Rattle.fit.specs.Match.{treeOf, refused}
 use Rattle.fit.proofs.Laws.{tree-of, refused-leaves}
+use Rattle.tree.specs.Tree.{LeafNode}
 use Rattle.tree.specs.Find.{rootPart}
 use Rattle.walk.specs.Walk.{NoneFits, DamagedAt, walkFrom, walk, noBook}
 use Rattle.walk.specs.declared.state.Walk.{Walk}
@@ -30,7 +31,7 @@ module _ (table term : List ℕ) (s : Walk) (t : WalkTold table term s) where
   unfolding WalkTold Standing
   ended-holds = t .0 .0
 
-  pub ended-none : s .stands ≡ 1 → (fits : ℕ → List ℕ → Bool) → walkFrom fits table 0 (rootPart (partFrom term 0)) ≡ NoneFits
+  pub ended-none : s .stands ≡ 1 → (fits : LeafNode → Bool) → walkFrom fits table 0 (rootPart (partFrom term 0)) ≡ NoneFits
   unfolding WalkTold Standing
   ended-none z fits = go (s .stands) z (t .0 .1)
     where
@@ -39,7 +40,7 @@ module _ (table term : List ℕ) (s : Walk) (t : WalkTold table term s) where
       go (suc zero) z e = e fits
       go (suc (suc n)) z e = absurd (omega arith)
 
-  pub ended-damaged : (s .stands ≡ 1 → ⊥) → (s .stands ≡ 2 → ⊥) → (fits : ℕ → List ℕ → Bool) → walkFrom fits table 0 (rootPart (partFrom term 0)) ≡ DamagedAt (s .at)
+  pub ended-damaged : (s .stands ≡ 1 → ⊥) → (s .stands ≡ 2 → ⊥) → (fits : LeafNode → Bool) → walkFrom fits table 0 (rootPart (partFrom term 0)) ≡ DamagedAt (s .at)
   unfolding WalkTold Standing
   ended-damaged a b fits = go (s .stands) (t .1) a b (t .0 .1)
     where

@@ -21,7 +21,7 @@ use Rattle.walk.specs.declared.taken.Taken.the-variants.{Not}
 use Rattle.walk.specs.declared.state.Walk.{Walk}
 use Rattle.walk.specs.declared.with_book.BookMatch.{BookMatch}
 use Rattle.walk.specs.declared.with_book.BookMatch.the-variants as found
-use Rattle.walk.specs.told.State.{partFrom, placesOf, Parted, leafVariables, leafRule, WalkTold, LeafWritten}
+use Rattle.walk.specs.told.State.{partFrom, placesOf, Parted, leafIn, leafRule, WalkTold, LeafWritten}
 use Rattle.walk.specs.told.WithBook.{bookWalk, leafFits, SkipTold, BookWalked}
 use Rattle.walk.proofs.Uncovered.{one-tree, from-stands}
 use Rattle.walk.proofs.Answers.{ended-none, ended-damaged, ended-leaf, ended-sound}
@@ -116,7 +116,7 @@ module _ (book table ws : List ℕ) (short : length table ≤ 16384) where
         vars = getD table (s .at + 2) 0
 
         abbrev body : ℕ → Row
-        body = leafBody (placesOf ws s) (leafVariables table (s .at))
+        body = leafBody (placesOf ws s) (leafIn table (s .at) .variables)
 
         found-here : bookWalk book table ws ≡ leafRule table (placesOf ws s) (s .at)
         found-here = ended-here ∙ rw f

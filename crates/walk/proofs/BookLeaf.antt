@@ -16,12 +16,12 @@ use Rattle.book.specs.Rule.{counted}
 use Rattle.book.specs.Book.{Rule}
 use Rattle.book.specs.told.Found.{sidesAt}
 use Rattle.book.proofs.Laws.{sides-rule, sides-none}
-use Rattle.tree.specs.Tree.{LeafVariable, countsOf}
+use Rattle.tree.specs.Tree.{LeafVariable}
 use Rattle.tree.specs.Find.{PartAt}
-use Rattle.tree.proofs.Laws.{length-counts, counts-none, counts-first}
-use Rattle.walk.specs.Walk.{variableThen, variablesIn, countsFit, bookFits}
+use Rattle.tree.proofs.Laws.{counts-none, counts-first}
+use Rattle.walk.specs.Walk.{variableThen, variablesIn, leafRead, countsFit, bookFits}
 use Rattle.walk.specs.told.State.{soundLeaf, variablesOr}
-use Rattle.walk.specs.told.WithBook.{countsIn, variablesFit, leafFits}
+use Rattle.walk.specs.told.WithBook.{countsIn, readFits, leafFits}
 use Rattle.walk.proofs.Sound.{AsMany, as-many}
 use Rattle.walk.proofs.Variables.{variables-cut, variables-past, variables-are}
 
@@ -95,7 +95,7 @@ module _ (book table : List ℕ) (at : ℕ) where
   unfolding leafFits bookFits
   fits-absent e = go read
     where
-      go : (o : Option (List LeafVariable)) → false ≡ variablesFit book rule o
+      go : (o : Option (List LeafVariable)) → false ≡ readFits book (leafRead rule o)
       go none = refl
       go (some vs) = rw (sides-none book rule e)
 
@@ -107,23 +107,23 @@ module _ (book table : List ℕ) (at : ℕ) where
     unfolding leafFits bookFits
     fits-other d = go read (as-many vars (drop (at + 3) table))
       where
-        go : (o : Option (List LeafVariable)) → AsMany vars o → false ≡ variablesFit book rule o
+        go : (o : Option (List LeafVariable)) → AsMany vars o → false ≡ readFits book (leafRead rule o)
         go none m = refl
         go (some vs) m =
             let q = sides-rule book rule s e in
-            rw (q .1, ne-eqb (length (countsOf vs)) (q .0 .vars) (λ z. d (q .2 .vars-is ∙ sym z ∙ length-counts vs ∙ m)))
+            rw (q .1, ne-eqb (length vs) (q .0 .vars) (λ z. d (q .2 .vars-is ∙ sym z ∙ m)))
 
     pub fits-counts : s .vars ≡ vars → (r : Bool) → r ≡ countsIn (take (s .right - s .left) (drop (s .left) book)) 0 read → r ≡ leafFits book table at
     unfolding leafFits bookFits
     fits-counts d r c = c ∙ go read (as-many vars (drop (at + 3) table))
       where
-        go : (o : Option (List LeafVariable)) → AsMany vars o → countsIn (take (s .right - s .left) (drop (s .left) book)) 0 o ≡ variablesFit book rule o
+        go : (o : Option (List LeafVariable)) → AsMany vars o → countsIn (take (s .right - s .left) (drop (s .left) book)) 0 o ≡ readFits book (leafRead rule o)
         go none m = refl
         go (some vs) m =
             let q = sides-rule book rule s e in
-            rw (q .1, eq-eqb (length (countsOf vs)) (q .0 .vars) (length-counts vs ∙ m ∙ sym d ∙ q .2 .vars-is), ← q .2 .left-is)
+            rw (q .1, eq-eqb (length vs) (q .0 .vars) (m ∙ sym d ∙ q .2 .vars-is), ← q .2 .left-is)
 
 -- ---- what a sound Leaf is judged by
-pub judged-by : (book : List ℕ) (rule : ℕ) (ps : List PartAt) (o : Option (List LeafVariable)) → soundLeaf ps o ≡ true → bookFits book rule (countsOf (variablesOr o)) ≡ variablesFit book rule o
+pub judged-by : (book : List ℕ) (rule : ℕ) (ps : List PartAt) (o : Option (List LeafVariable)) → soundLeaf ps o ≡ true → bookFits book (record { rule = rule; variables = variablesOr o }) ≡ readFits book (leafRead rule o)
 judged-by book rule ps none e = never (cc)
 judged-by book rule ps (some vs) e = refl

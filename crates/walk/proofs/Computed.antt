@@ -13,7 +13,7 @@ use Rattle.book.specs.Marked.{s, l, v, m, bookA}
 use Rattle.fit.specs.Left.{leftOf}
 use Rattle.fit.specs.Constraint.{childrenOf, isHead, bodyHere}
 use Rattle.fit.specs.Match.{treeOf, leftIn, bodyList}
-use Rattle.tree.specs.Tree.{countsOf}
+use Rattle.tree.specs.Tree.{countsOf, LeafNode}
 use Rattle.tree.specs.Find.{partOf, markedPart, childParts, insideOf, enterPart, bodyFor, leafBody}
 use Rattle.walk.specs.Walk.{Walked, NoneFits, RuleFits, DamagedAt, goTo, variablesIn, soundVariable, soundVariables, leafNode, isWord, caseOf, switchNode, closedNode, sameNode, nodeAt, nextAt, walkBy, walkFrom, walk, countsFit, bookFits, noBook}
 
@@ -28,7 +28,7 @@ seen NoneFits = nothing-fits
 seen (RuleFits f n) = rule (f .number) (bodyList (f .bodies) 0 n)
 seen (DamagedAt at) = damage at
 
-abbrev walked : (ℕ → List ℕ → Bool) → List ℕ → List ℕ → Seen
+abbrev walked : (LeafNode → Bool) → List ℕ → List ℕ → Seen
 walked fits table ws = seen (walk fits table (treeOf ws))
 
 term7 : List ℕ

@@ -15,9 +15,9 @@ use Rattle.term.proofs.Laws.{and-both}
 use Rattle.book.specs.Rule.{counted}
 use Rattle.book.specs.Book.{checkBook}
 use Rattle.fit.specs.Lowest.{Fitting, lowest}
-use Rattle.tree.specs.Tree.{Tree}
+use Rattle.tree.specs.Tree.{LeafNode, countsOf, Tree}
 use Rattle.tree.specs.Compile.{bookTree}
-use Rattle.tree.specs.Find.{PartAt, rootPart, partOf, enterPart, bodyFor, leafBody}
+use Rattle.tree.specs.Find.{PartAt, rootPart, partOf, enterPart, bodyFor, leafFitting}
 use Rattle.tree.specs.Layout.{layout}
 use Rattle.tree.proofs.Laws.{Lies, lies-inside, switch-lies, closed-lies, same-lies, Walks, fails, ends, takes, defaults, closedYes, closedNo, sameYes, sameNo, CountsAre, varsIn, FitsBook, book-walks}
 use Rattle.walk.specs.Walk.{Walked, NoneFits, RuleFits, Next, Ends, Goes, goTo, nextAt, follow, walkFrom, walk, countsFit, bookFits, noBook}
@@ -29,7 +29,7 @@ abbrev pub walkedOf : (ℕ → ℕ) → Option Fitting → Walked
 walkedOf vars none = NoneFits
 walkedOf vars (some f) = RuleFits f (vars (f .number))
 
-module _ (vars : ℕ → ℕ) (fits : ℕ → List ℕ → Bool) (table : List ℕ) where
+module _ (vars : ℕ → ℕ) (fits : LeafNode → Bool) (table : List ℕ) where
   -- where a node leads
   leads : (at : ℕ) (ps : List PartAt) (next : Next) (w : Walked) → nextAt fits table at ps ≡ next → follow (walkFrom fits table) next ≡ w → walkFrom fits table at ps ≡ w
   leads at ps next w e q = walk-is fits table at ps ∙ ap (follow (walkFrom fits table)) e ∙ q
@@ -43,9 +43,9 @@ module _ (vars : ℕ → ℕ) (fits : ℕ → List ℕ → Bool) (table : List �
 
   pub walk-laid : (tree : Tree) (ps : List PartAt) (r : Option Fitting) → Walks vars fits tree ps r → (at : ℕ) → Lies table at tree → walkFrom fits table at ps ≡ walkedOf vars r
   walk-laid tree ps r (fails {ps = qs}) at l = leads at qs (Ends NoneFits) NoneFits (next-fail fits table at qs l) refl
-  walk-laid tree ps r (ends {ps = qs} {rule = rule} {vs = vs} low few many fit s) at l =
-      leads at qs (Ends (RuleFits (record { number = rule; bodies = leafBody qs vs }) (length vs))) (RuleFits (record { number = rule; bodies = leafBody qs vs }) (vars rule))
-      (next-leaf fits table at qs rule vs l low few fit s) (ap (RuleFits (record { number = rule; bodies = leafBody qs vs })) many)
+  walk-laid tree ps r (ends {ps = qs} {leaf = leaf} low few many fit s) at l =
+      leads at qs (Ends (RuleFits (leafFitting qs leaf) (length (leaf .variables)))) (RuleFits (leafFitting qs leaf) (vars (leaf .rule)))
+      (next-leaf fits table at qs leaf l low few fit s) (ap (RuleFits (leafFitting qs leaf)) many)
   walk-laid tree ps r (takes {ps = qs} {r = s} {n = n} {cs = cs} {x = x} {default = d} less new t w) at l =
       let k = switch-lies table at n cs d l in
       let c = case-taken table (partOf n qs .part) cs x (k .other ∷ k .after) t (k .next) (k .cases) in
@@ -74,10 +74,10 @@ module _ (vars : ℕ → ℕ) (fits : ℕ → List ℕ → Bool) (table : List �
       (test-leads at (k .yes-at) (k .no-at) qs false (sameO (bodyFor qs n ys) (bodyFor qs m zs)) e (k .later-no) (lies-inside table (k .no-at) b (k .no-lies)) (next-same fits table at qs n m ys zs a b k p q z))
       (walk-laid b qs s w (k .no-at) (k .no-lies))
 
--- ---- the counts at a Leaf
+-- ---- what is asked of a Leaf
 none-given : (book : List ℕ) → FitsBook book noBook
 unfolding noBook
-none-given book number rule e ks n c = refl
+none-given book leaf rule e n c = refl
 
 counts-fit : (left : List ℕ) (x : ℕ) (ks : List ℕ) → CountsAre left x ks → countsFit left x ks ≡ true
 unfolding countsFit
@@ -86,11 +86,11 @@ counts-fit left x (k ∷ ks) c = and-both (eqb (counted x left) (suc k)) (counts
 
 book-given : (book : List ℕ) → FitsBook book (bookFits book)
 unfolding bookFits
-book-given book number rule e ks n c = rw (e, eq-eqb (length ks) (rule .vars) n) (counts-fit (rule .left) 0 ks c)
+book-given book leaf rule e n c = rw (e, eq-eqb (length (leaf .variables)) (rule .vars) n) (counts-fit (rule .left) 0 (countsOf (leaf .variables)) c)
 
 -- ---- a table that begins with an accepted book's tree, whatever follows it
 module _ (book : List ℕ) (accepted : checkBook book ≡ Good) (t : Row) (formed : Formed t) (one : width t ≡ 1) where
-  begun : (fits : ℕ → List ℕ → Bool) → FitsBook book fits → (table : List ℕ) → length table ≤ 16384 → Lies table 0 (bookTree book) → walk fits table t ≡ walkedOf (varsIn book) (lowest book 0 (getD book 0 0) t)
+  begun : (fits : LeafNode → Bool) → FitsBook book fits → (table : List ℕ) → length table ≤ 16384 → Lies table 0 (bookTree book) → walk fits table t ≡ walkedOf (varsIn book) (lowest book 0 (getD book 0 0) t)
   unfolding walk
   begun fits ok table short l =
       rw (le-leb (length table) 16384 short)

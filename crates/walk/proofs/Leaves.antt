@@ -18,20 +18,20 @@ use Rattle.term.specs.Part.{partEnd, isSome, bodyOf, written, bodyAnswer, bodyW
 use Rattle.term.proofs.Laws.{never, part-ends, body-of, body-keeps, answer-fits, body-answer, body-words, padded-fits, written-fits}
 use Rattle.fit.specs.Match.{bodyList}
 use Rattle.fit.proofs.Laws.{SoMany, many-start, many-short, many-done, many-more}
-use Rattle.tree.specs.Tree.{LeafVariable, countsOf}
-use Rattle.tree.specs.Find.{PartAt, bodyOr, leafBody}
+use Rattle.tree.specs.Tree.{LeafVariable, LeafNode}
+use Rattle.tree.specs.Find.{PartAt, bodyOr, leafBody, leafFitting}
 use Rattle.tree.proofs.Laws.{leaf-first, leaf-later}
-use Rattle.walk.specs.Walk.{DamagedAt, Next, Ends, unless, RuleFits, variablesIn, soundVariables, leafWith, leafNode}
+use Rattle.walk.specs.Walk.{DamagedAt, Next, Ends, unless, RuleFits, variablesIn, soundVariables, leafRead, leafWith, leafNode}
 use Rattle.walk.specs.declared.state.Walk.{Walk}
 use Rattle.walk.specs.declared.decide.Decision.the-variants.{Stop}
-use Rattle.walk.specs.told.State.{placesOf, Parted, Holds, soundLeaf, variablesOr, leafVariables, LeafSound, LeafDecided, PartWritten, LeafWritten}
+use Rattle.walk.specs.told.State.{placesOf, Parted, Holds, soundLeaf, variablesOr, leafIn, LeafSound, LeafDecided, PartWritten, LeafWritten}
 use Rattle.walk.proofs.Tells.{decided-damaged, decided-rule}
 use Rattle.walk.proofs.Uncovered.{place-body}
 use Rattle.walk.proofs.Judged.{two-words}
 use Rattle.walk.proofs.Variables.{FirstRead, first-read}
 
 -- ---- the node
-module _ (fits : ℕ → List ℕ → Bool) (at : ℕ) (ps : List PartAt) where
+module _ (fits : LeafNode → Bool) (at : ℕ) (ps : List PartAt) where
   leaf-short : (ws : List ℕ) → length ws < 2 → leafNode fits at ps ws ≡ Ends (DamagedAt at)
   unfolding leafNode
   leaf-short [] h = refl
@@ -46,24 +46,24 @@ module _ (fits : ℕ → List ℕ → Bool) (at : ℕ) (ps : List PartAt) where
   unfolding leafNode
   leaf-many rule n ws l h = rw (lt-ltb rule 64 l, lt-leb n 16 h)
 
-  leaf-is : (rule n : ℕ) (ws : List ℕ) → rule < 64 → n ≤ 16 → leafNode fits at ps (rule ∷ n ∷ ws) ≡ leafWith fits at ps rule n (variablesIn n ws)
+  leaf-is : (rule n : ℕ) (ws : List ℕ) → rule < 64 → n ≤ 16 → leafNode fits at ps (rule ∷ n ∷ ws) ≡ leafWith fits at ps n (leafRead rule (variablesIn n ws))
   unfolding leafNode
   leaf-is rule n ws l h = rw (lt-ltb rule 64 l, le-leb n 16 h)
 
-  with-unsound : (rule n : ℕ) (o : Option (List LeafVariable)) → soundLeaf ps o ≡ false → leafWith fits at ps rule n o ≡ Ends (DamagedAt at)
+  with-unsound : (rule n : ℕ) (o : Option (List LeafVariable)) → soundLeaf ps o ≡ false → leafWith fits at ps n (leafRead rule o) ≡ Ends (DamagedAt at)
   with-unsound rule n none e = refl
   with-unsound rule n (some vs) e = rw e
 
   with-sound : (rule n : ℕ) (o : Option (List LeafVariable)) → soundLeaf ps o ≡ true
-      → leafWith fits at ps rule n o ≡ unless (fits rule (countsOf (variablesOr o))) at (Ends (RuleFits (record { number = rule; bodies = leafBody ps (variablesOr o) }) n))
+      → leafWith fits at ps n (leafRead rule o) ≡ unless (fits (record { rule = rule; variables = variablesOr o })) at (Ends (RuleFits (leafFitting ps (record { rule = rule; variables = variablesOr o })) n))
   with-sound rule n none e = never (cc)
   with-sound rule n (some vs) e = rw e
 
 module _ (table term : List ℕ) (s : Walk) where
-  abbrev nexts : (ℕ → List ℕ → Bool) → Next
+  abbrev nexts : (LeafNode → Bool) → Next
   nexts fits = leafNode fits (s .at) (placesOf term s) (drop (s .at + 1) table)
 
-  leaf-ends : ((fits : ℕ → List ℕ → Bool) → nexts fits ≡ Ends (DamagedAt (s .at))) → LeafDecided table term s (Stop 3)
+  leaf-ends : ((fits : LeafNode → Bool) → nexts fits ≡ Ends (DamagedAt (s .at))) → LeafDecided table term s (Stop 3)
   leaf-ends e = decided-damaged table term nexts s e
 
   pub leaf-node-cut : s .at < length table → length table - s .at < 3 → LeafDecided table term s (Stop 3)
@@ -80,7 +80,7 @@ module _ (table term : List ℕ) (s : Walk) where
           leaf-ends (λ fits. rw (two-words table (s .at) long) (leaf-many fits (s .at) (placesOf term s) (getD table (s .at + 1) 0) (getD table (s .at + 2) 0) (drop (s .at + 3) table) low l))
 
       module _ (few : getD table (s .at + 2) 0 ≤ 16) where
-        leaf-next-is : (fits : ℕ → List ℕ → Bool) → nexts fits ≡ leafWith fits (s .at) (placesOf term s) (getD table (s .at + 1) 0) (getD table (s .at + 2) 0) (variablesIn (getD table (s .at + 2) 0) (drop (s .at + 3) table))
+        leaf-next-is : (fits : LeafNode → Bool) → nexts fits ≡ leafWith fits (s .at) (placesOf term s) (getD table (s .at + 2) 0) (leafRead (getD table (s .at + 1) 0) (variablesIn (getD table (s .at + 2) 0) (drop (s .at + 3) table)))
         leaf-next-is fits =
             rw (two-words table (s .at) long) (leaf-is fits (s .at) (placesOf term s) (getD table (s .at + 1) 0) (getD table (s .at + 2) 0) (drop (s .at + 3) table) low few)
 
@@ -195,18 +195,18 @@ some-body none e = never (cc)
 some-body (some b) e = (b, refl)
 
 pub record Writing (table term : List ℕ) (s : Walk) (room : ℕ) (bodies lengths : List ℕ) (at to x : ℕ) : Type 0 where
-  pub many : SoMany (getD table (s .at + 2) 0) (leafBody (placesOf term s) (leafVariables table (s .at))) room bodies lengths to x
+  pub many : SoMany (getD table (s .at + 2) 0) (leafBody (placesOf term s) (leafIn table (s .at) .variables)) room bodies lengths to x
   pub rest : List LeafVariable
   pub read : variablesIn (getD table (s .at + 2) 0 - x) (drop at table) ≡ some rest
   pub sound : soundVariables (placesOf term s) rest ≡ true
-  pub follows : (y : ℕ) → leafBody (placesOf term s) (leafVariables table (s .at)) (x + y) ≡ leafBody (placesOf term s) rest y
+  pub follows : (y : ℕ) → leafBody (placesOf term s) (leafIn table (s .at) .variables) (x + y) ≡ leafBody (placesOf term s) rest y
 
 module _ (table term : List ℕ) (s : Walk) (p : Parted term) (h : Holds term s) (l : LeafSound table term s) (room : ℕ) where
   abbrev vars : ℕ
   vars = getD table (s .at + 2) 0
 
   abbrev body : ℕ → Row
-  body = leafBody (placesOf term s) (leafVariables table (s .at))
+  body = leafBody (placesOf term s) (leafIn table (s .at) .variables)
 
   pub writing-start : (bodies lengths : List ℕ) → length bodies ≡ room → bodies ≡ replicate room 0 → lengths ≡ replicate 16 0 → Writing table term s room bodies lengths (s .at + 3) 0 0
   writing-start bodies lengths n c e = go (variablesIn vars (drop (s .at + 3) table)) refl (l .sound)

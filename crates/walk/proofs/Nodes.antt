@@ -15,8 +15,8 @@ use Rattle.term.specs.Part.{isSome, sameO}
 use Rattle.term.proofs.Laws.{and-both, true-good}
 use Rattle.fit.specs.Constraint.{isHead}
 use Rattle.fit.proofs.Laws.{head-nothing, head-node}
-use Rattle.tree.specs.Tree.{LeafVariable, countsOf, Tree, Fail, Leaf, Cases, NoCase, Case}
-use Rattle.tree.specs.Find.{PartAt, partOf, enterPart, bodyFor, leafBody}
+use Rattle.tree.specs.Tree.{LeafVariable, LeafNode, Tree, Fail, Leaf, Cases, NoCase, Case}
+use Rattle.tree.specs.Find.{PartAt, partOf, enterPart, bodyFor, leafFitting}
 use Rattle.tree.specs.Layout.{variableWords, caseCount, long, caseHeads}
 use Rattle.tree.proofs.Laws.{variables-more, count-none, count-case, heads-case, length-heads, Lies, lies-inside, fail-lies, leaf-lies, CasesLie, SwitchLies, ClosedLies, SameLies, SoundVariable, AllSound, SoundPlace, Takes, takesFirst, takesLater, NoneTaken, noCases, otherCase}
 use Rattle.walk.specs.Walk.{NoneFits, RuleFits, Ends, Goes, goTo, variablesIn, soundVariable, soundVariables, leafNode, isWord, caseOf, caseNext, switchNode, closedNode, sameNode, nodeAt, nextAt}
@@ -34,7 +34,7 @@ second-at : (xs : List ℕ) (x y : ℕ) (after : List ℕ) → getD (xs ++ (x �
 second-at xs x y after = getD-append-add xs (x ∷ y ∷ after) 1 0
 
 -- ---- Fail
-pub next-fail : (fits : ℕ → List ℕ → Bool) (table : List ℕ) (at : ℕ) (ps : List PartAt) → Lies table at Fail → nextAt fits table at ps ≡ Ends NoneFits
+pub next-fail : (fits : LeafNode → Bool) (table : List ℕ) (at : ℕ) (ps : List PartAt) → Lies table at Fail → nextAt fits table at ps ≡ Ends NoneFits
 unfolding nextAt nodeAt
 next-fail fits table at ps l = rw (fail-lies table at l .1)
 
@@ -58,12 +58,13 @@ unfolding soundVariables
 variables-sound ps [] a = refl
 variables-sound ps (v ∷ vs) a = and-both (soundVariable ps v) (soundVariables ps vs) (variable-sound ps v (a .0)) (variables-sound ps vs (a .1))
 
-pub next-leaf : (fits : ℕ → List ℕ → Bool) (table : List ℕ) (at : ℕ) (ps : List PartAt) (rule : ℕ) (vs : List LeafVariable) → Lies table at (Leaf rule vs) → rule < 64 → length vs ≤ 16
-    → fits rule (countsOf vs) ≡ true → AllSound ps vs → nextAt fits table at ps ≡ Ends (RuleFits (record { number = rule; bodies = leafBody ps vs }) (length vs))
+pub next-leaf : (fits : LeafNode → Bool) (table : List ℕ) (at : ℕ) (ps : List PartAt) (leaf : LeafNode) → Lies table at (Leaf leaf) → leaf .rule < 64 → length (leaf .variables) ≤ 16
+    → fits leaf ≡ true → AllSound ps (leaf .variables) → nextAt fits table at ps ≡ Ends (RuleFits (leafFitting ps leaf) (length (leaf .variables)))
 unfolding nextAt nodeAt leafNode
-next-leaf fits table at ps rule vs l low few f s =
-    let e = leaf-lies table at rule vs l in
-    rw (e .1, lt-ltb rule 64 low, le-leb (length vs) 16 few, variables-read vs (e .0), variables-sound ps vs s, f)
+next-leaf fits table at ps leaf l low few f s =
+    let e = leaf-lies table at leaf l in
+    let g : fits (record { rule = leaf .rule; variables = leaf .variables }) ≡ true = f in
+    rw (e .1, lt-ltb (leaf .rule) 64 low, le-leb (length (leaf .variables)) 16 few, variables-read (leaf .variables) (e .0), variables-sound ps (leaf .variables) s, g)
 
 -- ---- Switch
 pub word-head : (h : Head) (f : Row) → isWord (word h) f ≡ isHead h f
@@ -103,7 +104,7 @@ none-taken f cs more noCases at = no-case f at more
 none-taken f cs more (otherCase {h = h} {x = x} {cs = ds} e n) at = later-case f at h x ds more e ∙ none-taken f ds more n (at + long x)
 
 -- the words of a Switch
-switch-words : (fits : ℕ → List ℕ → Bool) (table : List ℕ) (at : ℕ) (ps : List PartAt) (n : ℕ) (cs : Cases) (default : Tree) (s : SwitchLies table at n cs default) → n < length ps
+switch-words : (fits : LeafNode → Bool) (table : List ℕ) (at : ℕ) (ps : List PartAt) (n : ℕ) (cs : Cases) (default : Tree) (s : SwitchLies table at n cs default) → n < length ps
     → nextAt fits table at ps ≡ caseNext table at n ps (s .other) (caseOf (partOf n ps .part) (caseCount cs) (caseHeads (s .next) cs ++ (s .other ∷ s .after)))
 unfolding nextAt nodeAt switchNode
 switch-words fits table at ps n cs default s l =
@@ -111,20 +112,20 @@ switch-words fits table at ps n cs default s l =
     let m : 2 * caseCount cs < length (caseHeads (s .next) cs ++ (s .other ∷ s .after)) = omega (arith, length-append (caseHeads (s .next) cs) (s .other ∷ s .after), k) in
     rw (s .words, lt-ltb n (length ps) l, lt-ltb (2 * caseCount cs) (length (caseHeads (s .next) cs ++ (s .other ∷ s .after))) m, default-at (caseHeads (s .next) cs) (s .other) (s .after) (2 * caseCount cs) k)
 
-pub next-case : (fits : ℕ → List ℕ → Bool) (table : List ℕ) (at : ℕ) (ps : List PartAt) (n : ℕ) (cs : Cases) (default x : Tree) → (s : SwitchLies table at n cs default) → n < length ps
+pub next-case : (fits : LeafNode → Bool) (table : List ℕ) (at : ℕ) (ps : List PartAt) (n : ℕ) (cs : Cases) (default x : Tree) → (s : SwitchLies table at n cs default) → n < length ps
     → partOf n ps .entered ≡ false → (r : Taken table (s .next) (partOf n ps .part) cs x (s .other ∷ s .after)) → nextAt fits table at ps ≡ Goes (r .to) (enterPart n ps)
 next-case fits table at ps n cs default x s l e r =
     switch-words fits table at ps n cs default s l
     ∙ rw (r .is, e) (goes table at (r .to) (enterPart n ps) (omega (arith, s .later, r .later-or-same)) (lies-inside table (r .to) x (r .lies)))
 
-pub next-default : (fits : ℕ → List ℕ → Bool) (table : List ℕ) (at : ℕ) (ps : List PartAt) (n : ℕ) (cs : Cases) (default : Tree) → (s : SwitchLies table at n cs default) → n < length ps
+pub next-default : (fits : LeafNode → Bool) (table : List ℕ) (at : ℕ) (ps : List PartAt) (n : ℕ) (cs : Cases) (default : Tree) → (s : SwitchLies table at n cs default) → n < length ps
     → NoneTaken (partOf n ps .part) cs → nextAt fits table at ps ≡ Goes (s .other) ps
 next-default fits table at ps n cs default s l t =
     switch-words fits table at ps n cs default s l
     ∙ rw (none-taken (partOf n ps .part) cs (s .other ∷ s .after) t (s .next)) (goes table at (s .other) ps (s .later-other) (lies-inside table (s .other) default (s .otherwise)))
 
 -- ---- Closed
-pub next-closed : (fits : ℕ → List ℕ → Bool) (table : List ℕ) (at : ℕ) (ps : List PartAt) (n : ℕ) (ys : List ℕ) (a b : Tree) → (s : ClosedLies table at n ys a b) → SoundPlace ps n ys
+pub next-closed : (fits : LeafNode → Bool) (table : List ℕ) (at : ℕ) (ps : List PartAt) (n : ℕ) (ys : List ℕ) (a b : Tree) → (s : ClosedLies table at n ys a b) → SoundPlace ps n ys
     → nextAt fits table at ps ≡ goTo table at (pick (isSome (bodyFor ps n ys)) (s .yes-at) (s .no-at)) ps
 unfolding nextAt nodeAt closedNode
 next-closed fits table at ps n ys a b s p =
@@ -151,7 +152,7 @@ two-lists ys zs z more i =
 second-list : (ys zs : List ℕ) → length zs ≡ length ys → (more : List ℕ) → take (length ys) (zs ++ more) ≡ zs
 second-list ys zs z more = rw (← z) (take-append-seam zs more)
 
-same-words : (fits : ℕ → List ℕ → Bool) (table : List ℕ) (at : ℕ) (ps : List PartAt) (n m : ℕ) (ys zs : List ℕ) (yes-at no-at : ℕ) (after : List ℕ)
+same-words : (fits : LeafNode → Bool) (table : List ℕ) (at : ℕ) (ps : List PartAt) (n m : ℕ) (ys zs : List ℕ) (yes-at no-at : ℕ) (after : List ℕ)
     → drop at table ≡ 4 ∷ n ∷ m ∷ length ys ∷ (ys ++ (zs ++ (yes-at ∷ no-at ∷ after))) → SoundPlace ps n ys → SoundPlace ps m zs → length zs ≡ length ys
     → nextAt fits table at ps ≡ goTo table at (pick (sameO (bodyFor ps n ys) (bodyFor ps m zs)) yes-at no-at) ps
 unfolding nextAt nodeAt sameNode
@@ -174,7 +175,7 @@ same-words fits table at ps n m ys zs yes-at no-at after e p q z =
       two-lists ys zs z (yes-at ∷ no-at ∷ after) 1,
     )
 
-pub next-same : (fits : ℕ → List ℕ → Bool) (table : List ℕ) (at : ℕ) (ps : List PartAt) (n m : ℕ) (ys zs : List ℕ) (a b : Tree) → (s : SameLies table at n m ys zs a b) → SoundPlace ps n ys → SoundPlace ps m zs
+pub next-same : (fits : LeafNode → Bool) (table : List ℕ) (at : ℕ) (ps : List PartAt) (n m : ℕ) (ys zs : List ℕ) (a b : Tree) → (s : SameLies table at n m ys zs a b) → SoundPlace ps n ys → SoundPlace ps m zs
     → length zs ≡ length ys → nextAt fits table at ps ≡ goTo table at (pick (sameO (bodyFor ps n ys) (bodyFor ps m zs)) (s .yes-at) (s .no-at)) ps
 next-same fits table at ps n m ys zs a b s p q z =
     same-words fits table at ps n m ys zs (s .yes-at) (s .no-at) (s .after) (s .words) p q z

@@ -10,10 +10,10 @@ use lib.ListN.{length, getD, take, drop}
 use Rattle.term.specs.Word.{pick}
 use Rattle.term.specs.Renumber.{goodList}
 use Rattle.term.specs.Part.{isSome, sameO}
-use Rattle.tree.specs.Tree.{LeafVariable, countsOf}
-use Rattle.tree.specs.Find.{PartAt, partOf, enterPart, bodyFor, leafBody, total}
+use Rattle.tree.specs.Tree.{LeafNode}
+use Rattle.tree.specs.Find.{PartAt, partOf, enterPart, bodyFor, leafFitting, total}
 use Rattle.tree.proofs.Laws.{total-entered}
-use Rattle.walk.specs.Walk.{NoneFits, RuleFits, DamagedAt, Next, Ends, Goes, unless, goTo, variablesIn, soundVariables, leafWith, leafNode, caseOf, caseNext, switchNode, closedNode, sameNode, nodeAt, nextAt}
+use Rattle.walk.specs.Walk.{NoneFits, RuleFits, DamagedAt, Next, Ends, Goes, unless, goTo, variablesIn, soundVariables, leafRead, leafWith, leafNode, caseOf, caseNext, switchNode, closedNode, sameNode, nodeAt, nextAt}
 
 -- where the walk goes on, it has as many places and words below them as before
 abbrev pub Keeps : List PartAt → Next → Type 0
@@ -32,19 +32,19 @@ keeps-to : (ps : List PartAt) (table : List ℕ) (at to : ℕ) (qs : List PartAt
 unfolding goTo
 keeps-to ps table at to qs e = keeps-unless ps at (ltb at to && ltb to (length table)) (Goes to qs) e
 
-keeps-with : (fits : ℕ → List ℕ → Bool) (at : ℕ) (ps : List PartAt) (rule n : ℕ) (o : Option (List LeafVariable)) → Keeps ps (leafWith fits at ps rule n o)
-keeps-with fits at ps rule n none = tt
-keeps-with fits at ps rule n (some vs) =
-    keeps-unless ps at (soundVariables ps vs) (unless (fits rule (countsOf vs)) at (Ends (RuleFits (record { number = rule; bodies = leafBody ps vs }) n)))
-    (keeps-unless ps at (fits rule (countsOf vs)) (Ends (RuleFits (record { number = rule; bodies = leafBody ps vs }) n)) tt)
+keeps-with : (fits : LeafNode → Bool) (at : ℕ) (ps : List PartAt) (n : ℕ) (o : Option LeafNode) → Keeps ps (leafWith fits at ps n o)
+keeps-with fits at ps n none = tt
+keeps-with fits at ps n (some leaf) =
+    keeps-unless ps at (soundVariables ps (leaf .variables)) (unless (fits leaf) at (Ends (RuleFits (leafFitting ps leaf) n)))
+    (keeps-unless ps at (fits leaf) (Ends (RuleFits (leafFitting ps leaf) n)) tt)
 
-keeps-leaf : (fits : ℕ → List ℕ → Bool) (at : ℕ) (ps : List PartAt) (ws : List ℕ) → Keeps ps (leafNode fits at ps ws)
+keeps-leaf : (fits : LeafNode → Bool) (at : ℕ) (ps : List PartAt) (ws : List ℕ) → Keeps ps (leafNode fits at ps ws)
 unfolding leafNode
 keeps-leaf fits at ps [] = tt
 keeps-leaf fits at ps (rule ∷ []) = tt
 keeps-leaf fits at ps (rule ∷ n ∷ ws) =
-    keeps-unless ps at (ltb rule 64) (unless (leb n 16) at (leafWith fits at ps rule n (variablesIn n ws)))
-    (keeps-unless ps at (leb n 16) (leafWith fits at ps rule n (variablesIn n ws)) (keeps-with fits at ps rule n (variablesIn n ws)))
+    keeps-unless ps at (ltb rule 64) (unless (leb n 16) at (leafWith fits at ps n (leafRead rule (variablesIn n ws))))
+    (keeps-unless ps at (leb n 16) (leafWith fits at ps n (leafRead rule (variablesIn n ws))) (keeps-with fits at ps n (leafRead rule (variablesIn n ws))))
 
 keeps-case : (table : List ℕ) (at n : ℕ) (ps : List PartAt) (default : ℕ) (o : Option ℕ) → Keeps ps (caseNext table at n ps default o)
 keeps-case table at n ps default none = keeps-to ps table at default ps refl
@@ -96,7 +96,7 @@ keeps-same table at ps (n ∷ m ∷ k ∷ ws) =
     (keeps-unless ps at (goodList (partOf n ps .depth) (take k ws)) e
     (keeps-unless ps at (goodList (partOf m ps .depth) (take k (drop k ws))) f (keeps-to ps table at to ps refl))))))
 
-keeps-node : (fits : ℕ → List ℕ → Bool) (table : List ℕ) (at : ℕ) (ps : List PartAt) (ws : List ℕ) → Keeps ps (nodeAt fits table at ps ws)
+keeps-node : (fits : LeafNode → Bool) (table : List ℕ) (at : ℕ) (ps : List PartAt) (ws : List ℕ) → Keeps ps (nodeAt fits table at ps ws)
 unfolding nodeAt
 keeps-node fits table at ps [] = tt
 keeps-node fits table at ps (tag ∷ ws) =
@@ -109,6 +109,6 @@ keeps-node fits table at ps (tag ∷ ws) =
     (keeps-pick ps (eqb tag 3) (closedNode table at ps ws) d (keeps-closed table at ps ws)
     (keeps-pick ps (eqb tag 4) (sameNode table at ps ws) (Ends (DamagedAt at)) (keeps-same table at ps ws) tt))))
 
-pub keeps-next : (fits : ℕ → List ℕ → Bool) (table : List ℕ) (at : ℕ) (ps : List PartAt) → Keeps ps (nextAt fits table at ps)
+pub keeps-next : (fits : LeafNode → Bool) (table : List ℕ) (at : ℕ) (ps : List PartAt) → Keeps ps (nextAt fits table at ps)
 unfolding nextAt
 keeps-next fits table at ps = keeps-node fits table at ps (drop at table)

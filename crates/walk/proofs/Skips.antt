@@ -11,12 +11,13 @@ use borrow.Author.Tests.{le-leb, lt-ltb}
 use Rattle.term.specs.Word.{pick}
 use Rattle.term.specs.Row.{Row}
 use Rattle.term.proofs.Laws.{and-both}
+use Rattle.tree.specs.Tree.{LeafNode}
 use Rattle.tree.specs.Find.{PartAt, rootPart, partOf}
 use Rattle.tree.proofs.Laws.{part-root}
 use Rattle.walk.specs.Walk.{Walked, NoneFits, Next, Ends, Goes, unless, goTo, caseOf, caseNext, switchNode, nodeAt, nextAt, follow, walkFrom, walk}
 use Rattle.walk.proofs.Steps.{walk-is}
 
-module _ (fits : ℕ → List ℕ → Bool) (table : List ℕ) where
+module _ (fits : LeafNode → Bool) (table : List ℕ) where
   fails-at : (to : ℕ) (ps : List PartAt) → to < length table → getD table to 0 ≡ 0 → walkFrom fits table to ps ≡ NoneFits
   unfolding nextAt nodeAt
   fails-at to ps l z = walk-is fits table to ps ∙ rw (drop-cons table to 0 l, z)

@@ -1,5 +1,5 @@
 -- On every walk, over whole words or damaged ones, a rule that is found has bodies, and fits what is asked of it: each uncovered part is one term, and a Leaf is sound.
-use mathlib.Core.Path.{_≡_, refl, ap, _∙_}
+use mathlib.Core.Path.{_≡_, refl, ap}
 use mathlib.Core.Bool.{Bool, true, false, _&&_, not}
 use mathlib.Core.List.{List, [], _∷_}
 use mathlib.Core.Option.{Option, none, some}
@@ -15,18 +15,18 @@ use Rattle.term.specs.Part.{isSome, sameO}
 use Rattle.term.proofs.Laws.{never, and-left, and-right, good-true}
 use Rattle.book.specs.Book.{Rule, ruleAt}
 use Rattle.fit.specs.Fit.{IsBody}
-use Rattle.tree.specs.Tree.{LeafVariable, countsOf}
-use Rattle.tree.specs.Find.{PartAt, rootPart, partOf, enterPart, bodyFor, leafBody}
-use Rattle.tree.proofs.Laws.{SoundVariable, AllSound, AllTerms, terms-root, terms-entered, leaf-terms, length-counts}
-use Rattle.walk.specs.Walk.{Walked, NoneFits, RuleFits, DamagedAt, Next, Ends, Goes, unless, goTo, variableThen, variablesIn, soundVariable, soundVariables, leafWith, leafNode, caseOf, caseNext, switchNode, closedNode, sameNode, nodeAt, nextAt, follow, walkBy, walkFrom, walk, countsFit, ruleFits, bookFits}
+use Rattle.tree.specs.Tree.{LeafVariable, LeafNode, countsOf}
+use Rattle.tree.specs.Find.{PartAt, rootPart, partOf, enterPart, bodyFor, leafFitting}
+use Rattle.tree.proofs.Laws.{SoundVariable, AllSound, AllTerms, terms-root, terms-entered, leaf-terms}
+use Rattle.walk.specs.Walk.{Walked, NoneFits, RuleFits, DamagedAt, Next, Ends, Goes, unless, goTo, variableThen, variablesIn, soundVariable, soundVariables, leafRead, leafWith, leafNode, caseOf, caseNext, switchNode, closedNode, sameNode, nodeAt, nextAt, follow, walkBy, walkFrom, walk, countsFit, ruleFits, bookFits}
 
--- a rule that is found has as many bodies as it has variables, and counts that fit
-abbrev pub FoundSound : (ℕ → List ℕ → Bool) → Walked → Type 0
+-- a rule that is found has as many bodies as it has variables, and its Leaf fits
+abbrev pub FoundSound : (LeafNode → Bool) → Walked → Type 0
 FoundSound fits NoneFits = Unit {0}
-FoundSound fits (RuleFits f n) = (ks : List ℕ) × (length ks ≡ n) × (fits (f .number) ks ≡ true) × ((x : ℕ) → x < n → IsBody (f .bodies x))
+FoundSound fits (RuleFits f n) = (vs : List LeafVariable) × (length vs ≡ n) × (fits (record { rule = f .number; variables = vs }) ≡ true) × ((x : ℕ) → x < n → IsBody (f .bodies x))
 FoundSound fits (DamagedAt at) = Unit {0}
 
-abbrev SoundNext : (ℕ → List ℕ → Bool) → Next → Type 0
+abbrev SoundNext : (LeafNode → Bool) → Next → Type 0
 SoundNext fits (Ends w) = FoundSound fits w
 SoundNext fits (Goes to qs) = AllTerms qs
 
@@ -68,7 +68,7 @@ as-many (suc n) (p ∷ k ∷ ws) =
     pick-many (suc n) (leb k (length ws)) (variableThen (record { at = p; list = take k ws }) (variablesIn n (drop k ws)))
     (one-more n (record { at = p; list = take k ws }) (variablesIn n (drop k ws)) (as-many n (drop k ws)))
 
-module _ (fits : ℕ → List ℕ → Bool) (ps : List PartAt) (terms : AllTerms ps) where
+module _ (fits : LeafNode → Bool) (ps : List PartAt) (terms : AllTerms ps) where
   sound-unless : (at : ℕ) (b : Bool) (next : Next) → SoundNext fits next → SoundNext fits (unless b at next)
   sound-unless at true next k = k
   sound-unless at false next k = tt
@@ -81,13 +81,13 @@ module _ (fits : ℕ → List ℕ → Bool) (ps : List PartAt) (terms : AllTerms
   unfolding goTo
   sound-to table at to qs a = sound-unless at (ltb at to && ltb to (length table)) (Goes to qs) a
 
-  sound-with : (at rule n : ℕ) (o : Option (List LeafVariable)) → AsMany n o → SoundNext fits (leafWith fits at ps rule n o)
+  sound-with : (at rule n : ℕ) (o : Option (List LeafVariable)) → AsMany n o → SoundNext fits (leafWith fits at ps n (leafRead rule o))
   sound-with at rule n none m = tt
-  sound-with at rule n (some vs) m = go (soundVariables ps vs) (fits rule (countsOf vs)) refl refl
+  sound-with at rule n (some vs) m = go (soundVariables ps vs) (fits (record { rule = rule; variables = vs })) refl refl
     where
-      go : (a b : Bool) → soundVariables ps vs ≡ a → fits rule (countsOf vs) ≡ b
-          → SoundNext fits (unless a at (unless b at (Ends (RuleFits (record { number = rule; bodies = leafBody ps vs }) n))))
-      go true true p q = (countsOf vs, length-counts vs ∙ m, q, λ x h. leaf-terms ps terms vs (sound-all ps vs p) x (omega (arith, m, h)))
+      go : (a b : Bool) → soundVariables ps vs ≡ a → fits (record { rule = rule; variables = vs }) ≡ b
+          → SoundNext fits (unless a at (unless b at (Ends (RuleFits (leafFitting ps (record { rule = rule; variables = vs })) n))))
+      go true true p q = (vs, m, q, λ x h. leaf-terms ps terms vs (sound-all ps vs p) x (omega (arith, m, h)))
       go true false p q = tt
       go false b p q = tt
 
@@ -96,8 +96,8 @@ module _ (fits : ℕ → List ℕ → Bool) (ps : List PartAt) (terms : AllTerms
   sound-leaf at [] = tt
   sound-leaf at (rule ∷ []) = tt
   sound-leaf at (rule ∷ n ∷ ws) =
-      sound-unless at (ltb rule 64) (unless (leb n 16) at (leafWith fits at ps rule n (variablesIn n ws)))
-      (sound-unless at (leb n 16) (leafWith fits at ps rule n (variablesIn n ws)) (sound-with at rule n (variablesIn n ws) (as-many n ws)))
+      sound-unless at (ltb rule 64) (unless (leb n 16) at (leafWith fits at ps n (leafRead rule (variablesIn n ws))))
+      (sound-unless at (leb n 16) (leafWith fits at ps n (leafRead rule (variablesIn n ws))) (sound-with at rule n (variablesIn n ws) (as-many n ws)))
 
   -- ---- the other nodes go on with the parts, or with one of them entered
   module _ (table : List ℕ) (at : ℕ) where
@@ -166,7 +166,7 @@ module _ (fits : ℕ → List ℕ → Bool) (ps : List PartAt) (terms : AllTerms
     sound-next = sound-node (drop at table)
 
 -- ---- the whole walk
-module _ (fits : ℕ → List ℕ → Bool) (table : List ℕ) where
+module _ (fits : LeafNode → Bool) (table : List ℕ) where
   sound-follow : (go : ℕ → List PartAt → Walked) → ((to : ℕ) (qs : List PartAt) → AllTerms qs → FoundSound fits (go to qs)) → (next : Next) → SoundNext fits next → FoundSound fits (follow go next)
   sound-follow go f (Ends w) s = s
   sound-follow go f (Goes to qs) s = f to qs s
@@ -185,10 +185,10 @@ module _ (fits : ℕ → List ℕ → Bool) (table : List ℕ) where
       go false = tt
 
 -- ---- with a book the rule is one of the book's, with as many variables
-pub fits-rule : (book : List ℕ) (number : ℕ) (ks : List ℕ) → bookFits book number ks ≡ true → (rule : Rule) × (ruleAt book number ≡ some rule) × (length ks ≡ rule .vars)
+pub fits-rule : (book : List ℕ) (number : ℕ) (vs : List LeafVariable) → bookFits book (record { rule = number; variables = vs }) ≡ true → (rule : Rule) × (ruleAt book number ≡ some rule) × (length vs ≡ rule .vars)
 unfolding bookFits
-fits-rule book number ks e = go (ruleAt book number) refl e
+fits-rule book number vs e = go (ruleAt book number) refl e
   where
-    go : (o : Option Rule) → ruleAt book number ≡ o → ruleFits o ks ≡ true → (rule : Rule) × (ruleAt book number ≡ some rule) × (length ks ≡ rule .vars)
+    go : (o : Option Rule) → ruleAt book number ≡ o → ruleFits o (record { rule = number; variables = vs }) ≡ true → (rule : Rule) × (ruleAt book number ≡ some rule) × (length vs ≡ rule .vars)
     go none q f = never (cc)
-    go (some rule) q f = (rule, q, eqb-true (length ks) (rule .vars) (and-left (eqb (length ks) (rule .vars)) (countsFit (rule .left) 0 ks) f))
+    go (some rule) q f = (rule, q, eqb-true (length vs) (rule .vars) (and-left (eqb (length vs) (rule .vars)) (countsFit (rule .left) 0 (countsOf vs)) f))

@@ -11,9 +11,9 @@ use borrow.Author.Tests.{ltb-true}
 use Rattle.term.specs.Word.{pick}
 use Rattle.term.specs.Renumber.{goodList}
 use Rattle.term.specs.Part.{isSome, sameO}
-use Rattle.tree.specs.Tree.{LeafVariable, countsOf}
-use Rattle.tree.specs.Find.{PartAt, partOf, enterPart, bodyFor, leafBody}
-use Rattle.walk.specs.Walk.{Walked, NoneFits, RuleFits, DamagedAt, Next, Ends, Goes, unless, goTo, variablesIn, soundVariables, leafWith, leafNode, caseOf, caseNext, switchNode, closedNode, sameNode, nodeAt, nextAt, follow, walkBy, walkFrom}
+use Rattle.tree.specs.Tree.{LeafNode}
+use Rattle.tree.specs.Find.{PartAt, partOf, enterPart, bodyFor, leafFitting}
+use Rattle.walk.specs.Walk.{Walked, NoneFits, RuleFits, DamagedAt, Next, Ends, Goes, unless, goTo, variablesIn, soundVariables, leafRead, leafWith, leafNode, caseOf, caseNext, switchNode, closedNode, sameNode, nodeAt, nextAt, follow, walkBy, walkFrom}
 
 -- where the walk goes on, it is later and inside
 abbrev pub Later : List ℕ → ℕ → Next → Type 0
@@ -37,19 +37,19 @@ later-pick : (table : List ℕ) (at : ℕ) (b : Bool) (x y : Next) → Later tab
 later-pick table at true x y l m = l
 later-pick table at false x y l m = m
 
-later-with : (fits : ℕ → List ℕ → Bool) (table : List ℕ) (at : ℕ) (ps : List PartAt) (rule n : ℕ) (o : Option (List LeafVariable)) → Later table at (leafWith fits at ps rule n o)
-later-with fits table at ps rule n none = tt
-later-with fits table at ps rule n (some vs) =
-    later-unless table at (soundVariables ps vs) (unless (fits rule (countsOf vs)) at (Ends (RuleFits (record { number = rule; bodies = leafBody ps vs }) n)))
-    (later-unless table at (fits rule (countsOf vs)) (Ends (RuleFits (record { number = rule; bodies = leafBody ps vs }) n)) tt)
+later-with : (fits : LeafNode → Bool) (table : List ℕ) (at : ℕ) (ps : List PartAt) (n : ℕ) (o : Option LeafNode) → Later table at (leafWith fits at ps n o)
+later-with fits table at ps n none = tt
+later-with fits table at ps n (some leaf) =
+    later-unless table at (soundVariables ps (leaf .variables)) (unless (fits leaf) at (Ends (RuleFits (leafFitting ps leaf) n)))
+    (later-unless table at (fits leaf) (Ends (RuleFits (leafFitting ps leaf) n)) tt)
 
-later-leaf : (fits : ℕ → List ℕ → Bool) (table : List ℕ) (at : ℕ) (ps : List PartAt) (ws : List ℕ) → Later table at (leafNode fits at ps ws)
+later-leaf : (fits : LeafNode → Bool) (table : List ℕ) (at : ℕ) (ps : List PartAt) (ws : List ℕ) → Later table at (leafNode fits at ps ws)
 unfolding leafNode
 later-leaf fits table at ps [] = tt
 later-leaf fits table at ps (rule ∷ []) = tt
 later-leaf fits table at ps (rule ∷ n ∷ ws) =
-    later-unless table at (ltb rule 64) (unless (leb n 16) at (leafWith fits at ps rule n (variablesIn n ws)))
-    (later-unless table at (leb n 16) (leafWith fits at ps rule n (variablesIn n ws)) (later-with fits table at ps rule n (variablesIn n ws)))
+    later-unless table at (ltb rule 64) (unless (leb n 16) at (leafWith fits at ps n (leafRead rule (variablesIn n ws))))
+    (later-unless table at (leb n 16) (leafWith fits at ps n (leafRead rule (variablesIn n ws))) (later-with fits table at ps n (leafRead rule (variablesIn n ws))))
 
 later-case : (table : List ℕ) (at n : ℕ) (ps : List PartAt) (default : ℕ) (o : Option ℕ) → Later table at (caseNext table at n ps default o)
 later-case table at n ps default none = later-to table at default ps
@@ -97,7 +97,7 @@ later-same table at ps (n ∷ m ∷ k ∷ ws) =
     (later-unless table at (goodList (partOf n ps .depth) (take k ws)) e
     (later-unless table at (goodList (partOf m ps .depth) (take k (drop k ws))) f (later-to table at to ps))))))
 
-later-node : (fits : ℕ → List ℕ → Bool) (table : List ℕ) (at : ℕ) (ps : List PartAt) (ws : List ℕ) → Later table at (nodeAt fits table at ps ws)
+later-node : (fits : LeafNode → Bool) (table : List ℕ) (at : ℕ) (ps : List PartAt) (ws : List ℕ) → Later table at (nodeAt fits table at ps ws)
 unfolding nodeAt
 later-node fits table at ps [] = tt
 later-node fits table at ps (tag ∷ ws) =
@@ -110,12 +110,12 @@ later-node fits table at ps (tag ∷ ws) =
     (later-pick table at (eqb tag 3) (closedNode table at ps ws) d (later-closed table at ps ws)
     (later-pick table at (eqb tag 4) (sameNode table at ps ws) (Ends (DamagedAt at)) (later-same table at ps ws) tt))))
 
-pub later-next : (fits : ℕ → List ℕ → Bool) (table : List ℕ) (at : ℕ) (ps : List PartAt) → Later table at (nextAt fits table at ps)
+pub later-next : (fits : LeafNode → Bool) (table : List ℕ) (at : ℕ) (ps : List PartAt) → Later table at (nextAt fits table at ps)
 unfolding nextAt
 later-next fits table at ps = later-node fits table at ps (drop at table)
 
 -- ---- the knot
-module _ (fits : ℕ → List ℕ → Bool) (table : List ℕ) where
+module _ (fits : LeafNode → Bool) (table : List ℕ) where
   follow-same : (at : ℕ) (f g : ℕ → List PartAt → Walked) → ((to : ℕ) (ps : List PartAt) → at < to → to < length table → f to ps ≡ g to ps) → (next : Next) → Later table at next → follow f next ≡ follow g next
   follow-same at f g e (Ends w) l = refl
   follow-same at f g e (Goes to ps) l = e to ps (l .0) (l .1)

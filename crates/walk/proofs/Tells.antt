@@ -6,6 +6,7 @@ use Prim.Native.Nat.{ℕ, zero, suc, _≤_, _<_}
 use native.Mathlib.Omega.{arith}
 use lib.ListN.{length, getD}
 use borrow.Author.Tests.{lt-ltb, le-ltb}
+use Rattle.tree.specs.Tree.{LeafNode}
 use Rattle.tree.specs.Find.{enterPart}
 use Rattle.walk.specs.Walk.{NoneFits, DamagedAt, Next, Ends, Goes, goTo}
 use Rattle.walk.specs.declared.state.Walk.{Walk}
@@ -14,10 +15,10 @@ use Rattle.walk.specs.declared.decide.Decision.the-variants.{Enter, Go, 
 use Rattle.walk.specs.told.State.{stoppedAs, movedTo, seen, placesOf, Holds, LeafAt, Said, EnterTold, Decided}
 
 -- what a node says, as the state has it that was handed on
-unfoldable pub Told : List ℕ → List ℕ → ((ℕ → List ℕ → Bool) → Next) → Walk → Type 0
+unfoldable pub Told : List ℕ → List ℕ → ((LeafNode → Bool) → Next) → Walk → Type 0
 Told table term next s = Holds term s × Said table term next s (s .stands)
 
-pub decided-same : (table term : List ℕ) (next other : (ℕ → List ℕ → Bool) → Next) (s : Walk) (d : Decision) → ((fits : ℕ → List ℕ → Bool) → next fits ≡ other fits)
+pub decided-same : (table term : List ℕ) (next other : (LeafNode → Bool) → Next) (s : Walk) (d : Decision) → ((fits : LeafNode → Bool) → next fits ≡ other fits)
     → Decided table term other s d → Decided table term next s d
 unfolding Decided
 decided-same table term next other s (Enter n to) e t = (t .0, t .1, λ fits. e fits ∙ t .2 fits)
@@ -27,12 +28,12 @@ decided-same table term next other s (Stop (suc zero)) e t = λ fits. e fits ∙
 decided-same table term next other s (Stop (suc (suc zero))) e t = record { leaf = t .leaf; ends = λ fits. e fits ∙ t .ends fits }
 decided-same table term next other s (Stop (suc (suc (suc n)))) e t = λ fits. e fits ∙ t fits
 
-module _ (table term : List ℕ) (next : (ℕ → List ℕ → Bool) → Next) (s : Walk) where
-  pub decided-damaged : ((fits : ℕ → List ℕ → Bool) → next fits ≡ Ends (DamagedAt (s .at))) → Decided table term next s (Stop 3)
+module _ (table term : List ℕ) (next : (LeafNode → Bool) → Next) (s : Walk) where
+  pub decided-damaged : ((fits : LeafNode → Bool) → next fits ≡ Ends (DamagedAt (s .at))) → Decided table term next s (Stop 3)
   unfolding Decided
   decided-damaged e = e
 
-  pub decided-no-rule : ((fits : ℕ → List ℕ → Bool) → next fits ≡ Ends NoneFits) → Decided table term next s (Stop 1)
+  pub decided-no-rule : ((fits : LeafNode → Bool) → next fits ≡ Ends NoneFits) → Decided table term next s (Stop 1)
   unfolding Decided
   decided-no-rule e = e
 
@@ -62,7 +63,7 @@ holds-seen term s at h =
 abbrev lends : Walk → Walk
 lends s = seen (s .offsets) (s .depths) (s .entered) (s .count) (s .at)
 
-module _ (table term : List ℕ) (next : (ℕ → List ℕ → Bool) → Next) (s : Walk) (h : Holds term s) (d : Decision) (decided : Decided table term next (lends s) d) where
+module _ (table term : List ℕ) (next : (LeafNode → Bool) → Next) (s : Walk) (h : Holds term s) (d : Decision) (decided : Decided table term next (lends s) d) where
   pub told-stop : (n : ℕ) → d ≡ Stop n → (r : Walk) → r ≡ stoppedAs s n → Told table term next r
   unfolding Told Decided
   told-stop n e r q = rw q (held, said n (rw e at decided))
@@ -84,7 +85,7 @@ module _ (table term : List ℕ) (next : (ℕ → List ℕ → Bool) → Next) (
         held : Holds term (movedTo s to)
         held = record { offsets-long = h .offsets-long; depths-long = h .depths-long; entered-long = h .entered-long; within = h .within; low = h .low; few = h .few; room = h .room }
 
-        said : (k : ℕ) → k ≡ 0 → ((fits : ℕ → List ℕ → Bool) → next fits ≡ Goes to (placesOf term s)) → Said table term next (movedTo s to) k
+        said : (k : ℕ) → k ≡ 0 → ((fits : LeafNode → Bool) → next fits ≡ Goes to (placesOf term s)) → Said table term next (movedTo s to) k
         said zero z t = t
         said (suc k) z t = absurd (omega arith)
 
@@ -92,7 +93,7 @@ module _ (table term : List ℕ) (next : (ℕ → List ℕ → Bool) → Next) (
     unfolding Told Decided
     told-enter n to e r q = (q .holds, said (r .stands) (q .same ∙ going) (rw e at decided))
       where
-        said : (k : ℕ) → k ≡ 0 → (n < s .count) × (getD (s .entered) n false ≡ false) × ((fits : ℕ → List ℕ → Bool) → next fits ≡ Goes to (enterPart n (placesOf term s))) → Said table term next r k
+        said : (k : ℕ) → k ≡ 0 → (n < s .count) × (getD (s .entered) n false ≡ false) × ((fits : LeafNode → Bool) → next fits ≡ Goes to (enterPart n (placesOf term s))) → Said table term next r k
         said zero z t = λ fits. rw (q .there, q .places) (t .2 fits)
         said (suc k) z t = absurd (omega arith)
 
@@ -101,5 +102,5 @@ module _ (table term : List ℕ) (next : (ℕ → List ℕ → Bool) → Next) (
   unfolding Decided
   enter-there n to e = taken (rw e at decided)
     where
-      taken : (n < s .count) × (getD (s .entered) n false ≡ false) × ((fits : ℕ → List ℕ → Bool) → next fits ≡ Goes to (enterPart n (placesOf term s))) → (n < s .count) × (getD (s .entered) n false ≡ false)
+      taken : (n < s .count) × (getD (s .entered) n false ≡ false) × ((fits : LeafNode → Bool) → next fits ≡ Goes to (enterPart n (placesOf term s))) → (n < s .count) × (getD (s .entered) n false ≡ false)
       taken t = (t .0, t .1)

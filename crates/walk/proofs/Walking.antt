@@ -10,14 +10,14 @@ use lib.Seq.{drop-cons}
 use borrow.Author.Tests.{eq-eqb, ne-eqb}
 use Rattle.term.specs.Word.{pick}
 use Rattle.term.specs.Row.{words}
-use Rattle.tree.specs.Tree.{countsOf}
+use Rattle.tree.specs.Tree.{LeafNode}
 use Rattle.tree.specs.Find.{PartAt, rootPart}
 use Rattle.tree.proofs.Laws.{total-root}
 use Rattle.walk.specs.Walk.{Walked, DamagedAt, Ends, unless, leafNode, switchNode, closedNode, sameNode, nodeAt, nextAt, follow, walkFrom}
 use Rattle.walk.specs.declared.state.Walk.{Walk}
 use Rattle.walk.specs.declared.decide.Decision.{Decision}
 use Rattle.walk.specs.declared.decide.Decision.the-variants.{Stop}
-use Rattle.walk.specs.told.State.{entryAt, partFrom, placeIn, placesFrom, placesOf, Parted, Holds, leafVariables, leafRule, Said, NodeDecided, SwitchDecided, ClosedDecided, SameDecided, LeafDecided, Stood, Standing, WalkTold}
+use Rattle.walk.specs.told.State.{entryAt, partFrom, placeIn, placesFrom, placesOf, Parted, Holds, leafIn, leafRule, Said, NodeDecided, SwitchDecided, ClosedDecided, SameDecided, LeafDecided, Stood, Standing, WalkTold}
 use Rattle.walk.proofs.Steps.{later-next, walk-is}
 use Rattle.walk.proofs.Tells.{Told, decided-same, decided-damaged, decided-no-rule}
 use Rattle.walk.proofs.Uncovered.{from-stands}
@@ -32,7 +32,7 @@ module _ (table term : List ℕ) (s : Walk) where
   node-past l = decided-damaged table term (λ fits. nextAt fits table (s .at) ps) s (λ fits. rw (drop-of-length-le table {i = s .at} l))
 
   module _ (inside : s .at < length table) where
-    node-is : (fits : ℕ → List ℕ → Bool) → nextAt fits table (s .at) ps ≡ nodeAt fits table (s .at) ps (getD table (s .at) 0 ∷ drop (s .at + 1) table)
+    node-is : (fits : LeafNode → Bool) → nextAt fits table (s .at) ps ≡ nodeAt fits table (s .at) ps (getD table (s .at) 0 ∷ drop (s .at + 1) table)
     unfolding nextAt
     node-is fits = let z : suc (s .at) ≡ s .at + 1 = omega arith in rw (drop-cons table (s .at) 0 inside, z)
 
@@ -74,19 +74,19 @@ module _ (table term : List ℕ) (s r : Walk) (going : s .stands ≡ 0) (t : Tol
     where
       go : (n : ℕ) → Said table term (λ fits. nextAt fits table (s .at) (placesOf term s)) r n → pick (eqb n 0) (suc (length table - r .at)) 0 < suc (length table - s .at)
       go zero e =
-          let l = rw (e (λ a b. true)) at (later-next (λ a b. true) table (s .at) (placesOf term s)) in
+          let l = rw (e (λ leaf. true)) at (later-next (λ leaf. true) table (s .at) (placesOf term s)) in
           omega (arith, l .0, l .1)
       go (suc n) e = rw (ne-eqb (suc n) 0 (λ z. omega arith)) (omega arith)
 
-  pub step-stands : (walked : (ℕ → List ℕ → Bool) → Walked) → Standing table term walked s → Standing table term walked r
+  pub step-stands : (walked : (LeafNode → Bool) → Walked) → Standing table term walked s → Standing table term walked r
   unfolding Told Standing
   step-stands walked q = (t .0, go (r .stands) (t .1))
     where
-      from : (n : ℕ) → n ≡ 0 → Stood table term walked s n → (fits : ℕ → List ℕ → Bool) → walked fits ≡ walkFrom fits table (s .at) (placesOf term s)
+      from : (n : ℕ) → n ≡ 0 → Stood table term walked s n → (fits : LeafNode → Bool) → walked fits ≡ walkFrom fits table (s .at) (placesOf term s)
       from zero z e = e
       from (suc n) z e = absurd (omega arith)
 
-      here : (fits : ℕ → List ℕ → Bool) → walked fits ≡ follow (walkFrom fits table) (nextAt fits table (s .at) (placesOf term s))
+      here : (fits : LeafNode → Bool) → walked fits ≡ follow (walkFrom fits table) (nextAt fits table (s .at) (placesOf term s))
       here fits = from (s .stands) going (q .1) fits ∙ walk-is fits table (s .at) (placesOf term s)
 
       chosen : (b : Bool) (f : ℕ → List PartAt → Walked) (at : ℕ) (w : Walked) → follow f (unless b at (Ends w)) ≡ pick b w (DamagedAt at)
@@ -101,7 +101,7 @@ module _ (table term : List ℕ) (s r : Walk) (going : s .stands ≡ 0) (t : Tol
             leaf = e .leaf;
             ends = λ fits.
                 here fits ∙ ap (follow (walkFrom fits table)) (e .ends fits)
-                ∙ chosen (fits (getD table (r .at + 1) 0) (countsOf (leafVariables table (r .at)))) (walkFrom fits table) (r .at) (leafRule table (placesOf term r) (r .at));
+                ∙ chosen (fits (leafIn table (r .at))) (walkFrom fits table) (r .at) (leafRule table (placesOf term r) (r .at));
           }
       go (suc (suc (suc n))) e = λ fits. here fits ∙ ap (follow (walkFrom fits table)) (e fits)
 
@@ -138,6 +138,6 @@ pub walk-ended : (table term : List ℕ) (s : Walk) → Standing table term (λ 
 unfolding WalkTold
 walk-ended table term s t n = (t, n)
 
-pub standing-holds : (table term : List ℕ) (walked : (ℕ → List ℕ → Bool) → Walked) (s : Walk) → Standing table term walked s → Holds term s
+pub standing-holds : (table term : List ℕ) (walked : (LeafNode → Bool) → Walked) (s : Walk) → Standing table term walked s → Holds term s
 unfolding Standing
 standing-holds table term walked s t = t .0

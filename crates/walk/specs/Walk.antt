@@ -12,8 +12,8 @@ use Rattle.term.specs.Part.{isSome, sameO}
 use Rattle.book.specs.Rule.{counted}
 use Rattle.book.specs.Book.{Rule, ruleAt}
 use Rattle.fit.specs.Lowest.{Fitting}
-use Rattle.tree.specs.Tree.{LeafVariable, countsOf}
-use Rattle.tree.specs.Find.{PartAt, rootPart, partOf, enterPart, bodyFor, leafBody}
+use Rattle.tree.specs.Tree.{LeafVariable, countsOf, LeafNode}
+use Rattle.tree.specs.Find.{PartAt, rootPart, partOf, enterPart, bodyFor, leafFitting}
 
 -- how a walk ends: no rule; a rule with its bodies, and how many variables it has; a damaged node at an address
 pub data Walked : Type 0 where
@@ -59,17 +59,22 @@ unfoldable pub soundVariables : List PartAt → List LeafVariable → Bool
 soundVariables ps [] = true
 soundVariables ps (v ∷ vs) = soundVariable ps v && soundVariables ps vs
 
-abbrev pub leafWith : (ℕ → List ℕ → Bool) → ℕ → List PartAt → ℕ → ℕ → Option (List LeafVariable) → Next
-leafWith fits at ps rule n none = Ends (DamagedAt at)
-leafWith fits at ps rule n (some vs) =
-    unless (soundVariables ps vs) at
-    (unless (fits rule (countsOf vs)) at
-    (Ends (RuleFits (record { number = rule; bodies = leafBody ps vs }) n)))
+-- the Leaf of a rule, where its variables were read
+abbrev pub leafRead : ℕ → Option (List LeafVariable) → Option LeafNode
+leafRead rule none = none
+leafRead rule (some vs) = some (record { rule = rule; variables = vs })
 
-unfoldable pub leafNode : (ℕ → List ℕ → Bool) → ℕ → List PartAt → List ℕ → Next
+abbrev pub leafWith : (LeafNode → Bool) → ℕ → List PartAt → ℕ → Option LeafNode → Next
+leafWith fits at ps n none = Ends (DamagedAt at)
+leafWith fits at ps n (some leaf) =
+    unless (soundVariables ps (leaf .variables)) at
+    (unless (fits leaf) at
+    (Ends (RuleFits (leafFitting ps leaf) n)))
+
+unfoldable pub leafNode : (LeafNode → Bool) → ℕ → List PartAt → List ℕ → Next
 leafNode fits at ps [] = Ends (DamagedAt at)
 leafNode fits at ps (rule ∷ []) = Ends (DamagedAt at)
-leafNode fits at ps (rule ∷ n ∷ ws) = unless (ltb rule 64) at (unless (leb n 16) at (leafWith fits at ps rule n (variablesIn n ws)))
+leafNode fits at ps (rule ∷ n ∷ ws) = unless (ltb rule 64) at (unless (leb n 16) at (leafWith fits at ps n (leafRead rule (variablesIn n ws))))
 
 -- ---- Switch: place, cases, (head word, address) each, default address
 unfoldable pub isWord : ℕ → Row → Bool
@@ -123,7 +128,7 @@ sameNode table at ps (n ∷ m ∷ k ∷ ws) =
     (pick (sameO (bodyFor ps n (take k ws)) (bodyFor ps m (take k (drop k ws)))) (getD ws (k + k) 0) (getD ws (k + k + 1) 0)) ps))))))
 
 -- ---- a node: "its tag isn't 0..4, it runs past the table"
-unfoldable pub nodeAt : (ℕ → List ℕ → Bool) → List ℕ → ℕ → List PartAt → List ℕ → Next
+unfoldable pub nodeAt : (LeafNode → Bool) → List ℕ → ℕ → List PartAt → List ℕ → Next
 nodeAt fits table at ps [] = Ends (DamagedAt at)
 nodeAt fits table at ps (tag ∷ ws) =
     pick (eqb tag 0) (Ends NoneFits)
@@ -133,7 +138,7 @@ nodeAt fits table at ps (tag ∷ ws) =
     (pick (eqb tag 4) (sameNode table at ps ws)
     (Ends (DamagedAt at))))))
 
-unfoldable pub nextAt : (ℕ → List ℕ → Bool) → List ℕ → ℕ → List PartAt → Next
+unfoldable pub nextAt : (LeafNode → Bool) → List ℕ → ℕ → List PartAt → Next
 nextAt fits table at ps = nodeAt fits table at ps (drop at table)
 
 -- ---- "The walk begins at 0 and carries the places uncovered so far from node to node."
@@ -142,15 +147,15 @@ follow go (Ends w) = w
 follow go (Goes to ps) = go to ps
 
 -- each address is later, so there are as many nodes at most as words after it
-unfoldable pub walkBy : ℕ → (ℕ → List ℕ → Bool) → List ℕ → ℕ → List PartAt → Walked
+unfoldable pub walkBy : ℕ → (LeafNode → Bool) → List ℕ → ℕ → List PartAt → Walked
 walkBy zero fits table at ps = DamagedAt at
 walkBy (suc n) fits table at ps = follow (walkBy n fits table) (nextAt fits table at ps)
 
-unfoldable pub walkFrom : (ℕ → List ℕ → Bool) → List ℕ → ℕ → List PartAt → Walked
+unfoldable pub walkFrom : (LeafNode → Bool) → List ℕ → ℕ → List PartAt → Walked
 walkFrom fits table at ps = walkBy (suc (length table - at)) fits table at ps
 
 -- a table longer than 16,384 words is damaged at 16,384
-unfoldable pub walk : (ℕ → List ℕ → Bool) → List ℕ → Row → Walked
+unfoldable pub walk : (LeafNode → Bool) → List ℕ → Row → Walked
 walk fits table t = pick (leb (length table) 16384) (walkFrom fits table 0 (rootPart t)) (DamagedAt 16384)
 
 -- ---- "Where a book is given too, a Leaf whose rule, n or counts don't fit it is damaged."
@@ -158,13 +163,13 @@ unfoldable pub countsFit : List ℕ → ℕ → List ℕ → Bool
 countsFit left x [] = true
 countsFit left x (k ∷ ks) = eqb (counted x left) (suc k) && countsFit left (suc x) ks
 
-abbrev pub ruleFits : Option Rule → List ℕ → Bool
-ruleFits none ks = false
-ruleFits (some rule) ks = eqb (length ks) (rule .vars) && countsFit (rule .left) 0 ks
+abbrev pub ruleFits : Option Rule → LeafNode → Bool
+ruleFits none leaf = false
+ruleFits (some rule) leaf = eqb (length (leaf .variables)) (rule .vars) && countsFit (rule .left) 0 (countsOf (leaf .variables))
 
-unfoldable pub bookFits : List ℕ → ℕ → List ℕ → Bool
-bookFits book rule ks = ruleFits (ruleAt book rule) ks
+unfoldable pub bookFits : List ℕ → LeafNode → Bool
+bookFits book leaf = ruleFits (ruleAt book (leaf .rule)) leaf
 
 -- no book is given
-unfoldable pub noBook : ℕ → List ℕ → Bool
-noBook rule ks = true
+unfoldable pub noBook : LeafNode → Bool
+noBook leaf = true

@@ -14,8 +14,8 @@ use Rattle.term.specs.declared.answer.Answer.the-variants.{Done, Short}
 use Rattle.term.specs.declared.renumber.Passed.{Passed}
 use Rattle.term.specs.declared.renumber.Passed.the-variants as step
 use Rattle.fit.specs.Match.{bodyList, fitted, matchAnswer, matchWords, matchLengths}
-use Rattle.tree.specs.Tree.{LeafVariable, countsOf}
-use Rattle.tree.specs.Find.{PartAt, rootPart, enterPart, bodyOr, leafBody, total}
+use Rattle.tree.specs.Tree.{LeafVariable, LeafNode}
+use Rattle.tree.specs.Find.{PartAt, rootPart, enterPart, bodyOr, leafBody, leafFitting, total}
 use Rattle.walk.specs.Walk.{Walked, NoneFits, RuleFits, DamagedAt, Next, Ends, Goes, unless, goTo, variablesIn, soundVariables, caseNext, switchNode, closedNode, sameNode, leafNode, nextAt, walkFrom, noBook}
 use Rattle.walk.specs.ByTree.{walkedMatch, walkedRule, MatchTreeOutcome, ruleGives}
 use Rattle.walk.specs.declared.state.Walk.{Walk}
@@ -75,13 +75,13 @@ abbrev pub variablesOr : Option (List LeafVariable) → List LeafVariable
 variablesOr none = []
 variablesOr (some vs) = vs
 
--- the variables of a Leaf at an address
-abbrev pub leafVariables : List ℕ → ℕ → List LeafVariable
-leafVariables table at = variablesOr (variablesIn (getD table (at + 2) 0) (drop (at + 3) table))
+-- the Leaf at an address
+abbrev pub leafIn : List ℕ → ℕ → LeafNode
+leafIn table at = record { rule = getD table (at + 1) 0; variables = variablesOr (variablesIn (getD table (at + 2) 0) (drop (at + 3) table)) }
 
 -- the rule of a Leaf at an address, with its bodies
 abbrev pub leafRule : List ℕ → List PartAt → ℕ → Walked
-leafRule table ps at = RuleFits (record { number = getD table (at + 1) 0; bodies = leafBody ps (leafVariables table at) }) (getD table (at + 2) 0)
+leafRule table ps at = RuleFits (leafFitting ps (leafIn table at)) (getD table (at + 2) 0)
 
 -- a Leaf where each variable has a body
 pub record LeafSound (table term : List ℕ) (s : Walk) : Type 0 where
@@ -89,15 +89,15 @@ pub record LeafSound (table term : List ℕ) (s : Walk) : Type 0 where
   pub few : getD table (s .at + 2) 0 ≤ 16
   pub sound : soundLeaf (placesOf term s) (variablesIn (getD table (s .at + 2) 0) (drop (s .at + 3) table)) ≡ true
 
-pub record LeafAt (table term : List ℕ) (next : (ℕ → List ℕ → Bool) → Next) (s : Walk) : Type 0 where
+pub record LeafAt (table term : List ℕ) (next : (LeafNode → Bool) → Next) (s : Walk) : Type 0 where
   pub leaf : LeafSound table term s
-  pub ends : (fits : ℕ → List ℕ → Bool) → next fits ≡ unless (fits (getD table (s .at + 1) 0) (countsOf (leafVariables table (s .at)))) (s .at) (Ends (leafRule table (placesOf term s) (s .at)))
+  pub ends : (fits : LeafNode → Bool) → next fits ≡ unless (fits (leafIn table (s .at))) (s .at) (Ends (leafRule table (placesOf term s) (s .at)))
 
-abbrev pub Said : List ℕ → List ℕ → ((ℕ → List ℕ → Bool) → Next) → Walk → ℕ → Type 0
-Said table term next s zero = (fits : ℕ → List ℕ → Bool) → next fits ≡ Goes (s .at) (placesOf term s)
-Said table term next s (suc zero) = (fits : ℕ → List ℕ → Bool) → next fits ≡ Ends NoneFits
+abbrev pub Said : List ℕ → List ℕ → ((LeafNode → Bool) → Next) → Walk → ℕ → Type 0
+Said table term next s zero = (fits : LeafNode → Bool) → next fits ≡ Goes (s .at) (placesOf term s)
+Said table term next s (suc zero) = (fits : LeafNode → Bool) → next fits ≡ Ends NoneFits
 Said table term next s (suc (suc zero)) = LeafAt table term next s
-Said table term next s (suc (suc (suc n))) = (fits : ℕ → List ℕ → Bool) → next fits ≡ Ends (DamagedAt (s .at))
+Said table term next s (suc (suc (suc n))) = (fits : LeafNode → Bool) → next fits ≡ Ends (DamagedAt (s .at))
 
 -- the state after a place was entered
 pub record EnterTold (term : List ℕ) (s : Walk) (n to : ℕ) (r : Walk) : Type 0 where
@@ -107,9 +107,9 @@ pub record EnterTold (term : List ℕ) (s : Walk) (n to : ℕ) (r : Walk) : Type
   pub same : r .stands ≡ s .stands
 
 -- ---- what a node says, as it is decided before the state is handed on
-unfoldable pub Decided : List ℕ → List ℕ → ((ℕ → List ℕ → Bool) → Next) → Walk → Decision → Type 0
-Decided table term next s (Enter n to) = (n < s .count) × (getD (s .entered) n false ≡ false) × ((fits : ℕ → List ℕ → Bool) → next fits ≡ Goes to (enterPart n (placesOf term s)))
-Decided table term next s (Go to) = (fits : ℕ → List ℕ → Bool) → next fits ≡ Goes to (placesOf term s)
+unfoldable pub Decided : List ℕ → List ℕ → ((LeafNode → Bool) → Next) → Walk → Decision → Type 0
+Decided table term next s (Enter n to) = (n < s .count) × (getD (s .entered) n false ≡ false) × ((fits : LeafNode → Bool) → next fits ≡ Goes to (enterPart n (placesOf term s)))
+Decided table term next s (Go to) = (fits : LeafNode → Bool) → next fits ≡ Goes to (placesOf term s)
 Decided table term next s (Stop n) = Said table term next s n
 
 abbrev pub NodeDecided : List ℕ → List ℕ → Walk → Decision → Type 0
@@ -153,17 +153,17 @@ SoundTold table term offsets depths count from n r = (entered : List Bool) → H
     → r ≡ soundLeaf (placesOf term (seen offsets depths entered count from)) (variablesIn n (drop from table))
 
 -- ---- how a walk stands: it goes on from here, or it ended
-pub record LeafFound (table term : List ℕ) (walked : (ℕ → List ℕ → Bool) → Walked) (s : Walk) : Type 0 where
+pub record LeafFound (table term : List ℕ) (walked : (LeafNode → Bool) → Walked) (s : Walk) : Type 0 where
   pub leaf : LeafSound table term s
-  pub ends : (fits : ℕ → List ℕ → Bool) → walked fits ≡ pick (fits (getD table (s .at + 1) 0) (countsOf (leafVariables table (s .at)))) (leafRule table (placesOf term s) (s .at)) (DamagedAt (s .at))
+  pub ends : (fits : LeafNode → Bool) → walked fits ≡ pick (fits (leafIn table (s .at))) (leafRule table (placesOf term s) (s .at)) (DamagedAt (s .at))
 
-abbrev pub Stood : List ℕ → List ℕ → ((ℕ → List ℕ → Bool) → Walked) → Walk → ℕ → Type 0
-Stood table term walked s zero = (fits : ℕ → List ℕ → Bool) → walked fits ≡ walkFrom fits table (s .at) (placesOf term s)
-Stood table term walked s (suc zero) = (fits : ℕ → List ℕ → Bool) → walked fits ≡ NoneFits
+abbrev pub Stood : List ℕ → List ℕ → ((LeafNode → Bool) → Walked) → Walk → ℕ → Type 0
+Stood table term walked s zero = (fits : LeafNode → Bool) → walked fits ≡ walkFrom fits table (s .at) (placesOf term s)
+Stood table term walked s (suc zero) = (fits : LeafNode → Bool) → walked fits ≡ NoneFits
 Stood table term walked s (suc (suc zero)) = LeafFound table term walked s
-Stood table term walked s (suc (suc (suc n))) = (fits : ℕ → List ℕ → Bool) → walked fits ≡ DamagedAt (s .at)
+Stood table term walked s (suc (suc (suc n))) = (fits : LeafNode → Bool) → walked fits ≡ DamagedAt (s .at)
 
-unfoldable pub Standing : List ℕ → List ℕ → ((ℕ → List ℕ → Bool) → Walked) → Walk → Type 0
+unfoldable pub Standing : List ℕ → List ℕ → ((LeafNode → Bool) → Walked) → Walk → Type 0
 Standing table term walked s = Holds term s × Stood table term walked s (s .stands)
 
 -- the walk over the part that the words begin with, once it ended
@@ -187,5 +187,5 @@ PartWritten d ys ws out done step.Stuck = (b : Row) → bodyOf d ys ws ≡ some 
 unfoldable pub LeafWritten : List ℕ → List ℕ → Walk → ℕ → List ℕ → List ℕ → Bool → Type 0
 LeafWritten table term s room bodies lengths r =
     let vars = getD table (s .at + 2) 0 in
-    let b = leafBody (placesOf term s) (leafVariables table (s .at)) in
+    let b = leafBody (placesOf term s) (leafIn table (s .at) .variables) in
     (leb (length (bodyList b 0 vars)) room ≡ r) × (pick r Done Short ≡ matchAnswer room (fitted vars b)) × (bodies ≡ matchWords room (fitted vars b)) × (lengths ≡ matchLengths room (fitted vars b))

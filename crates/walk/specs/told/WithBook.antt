@@ -8,8 +8,8 @@ use lib.Dec.{eqb}
 use lib.ListN.{length, getD, drop, replicate}
 use Rattle.term.specs.Row.{Row}
 use Rattle.fit.specs.Match.{bodyList, lengthList}
-use Rattle.tree.specs.Tree.{LeafVariable, countsOf}
-use Rattle.walk.specs.Walk.{Walked, NoneFits, RuleFits, DamagedAt, variablesIn, isWord, walk, countsFit, bookFits}
+use Rattle.tree.specs.Tree.{LeafVariable, countsOf, LeafNode}
+use Rattle.walk.specs.Walk.{Walked, NoneFits, RuleFits, DamagedAt, variablesIn, leafRead, isWord, walk, countsFit, bookFits}
 use Rattle.walk.specs.told.State.{partFrom}
 use Rattle.walk.specs.declared.with_book.BookMatch.{BookMatch}
 use Rattle.walk.specs.declared.with_book.BookMatch.the-variants.{None, Rule, Damaged}
@@ -23,17 +23,18 @@ abbrev pub countsIn : List ℕ → ℕ → Option (List LeafVariable) → Bool
 countsIn left x none = false
 countsIn left x (some vs) = countsFit left x (countsOf vs)
 
-abbrev pub variablesFit : List ℕ → ℕ → Option (List LeafVariable) → Bool
-variablesFit book rule none = false
-variablesFit book rule (some vs) = bookFits book rule (countsOf vs)
+-- whether a Leaf that was read fits the book
+abbrev pub readFits : List ℕ → Option LeafNode → Bool
+readFits book none = false
+readFits book (some leaf) = bookFits book leaf
 
 -- whether the Leaf at an address fits the book
 unfoldable pub leafFits : List ℕ → List ℕ → ℕ → Bool
-leafFits book table at = variablesFit book (getD table (at + 1) 0) (variablesIn (getD table (at + 2) 0) (drop (at + 3) table))
+leafFits book table at = readFits book (leafRead (getD table (at + 1) 0) (variablesIn (getD table (at + 2) 0) (drop (at + 3) table)))
 
 -- what is told of a tree's root and a word: where it is true, no rule fits a term that begins with the word
 abbrev pub SkipTold : List ℕ → ℕ → Bool → Type 0
-SkipTold table w true = (fits : ℕ → List ℕ → Bool) (t : Row) → ((v : ℕ) → isWord v t ≡ eqb v w) → length table ≤ 16384 → walk fits table t ≡ NoneFits
+SkipTold table w true = (fits : LeafNode → Bool) (t : Row) → ((v : ℕ) → isWord v t ≡ eqb v w) → length table ≤ 16384 → walk fits table t ≡ NoneFits
 SkipTold table w false = Unit {0}
 
 -- 16 bodies of at most 4,096 words always have room in 65,536 words: the bodies in variable order and their lengths, zeros after them
