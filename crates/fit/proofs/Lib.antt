@@ -9,6 +9,7 @@ mod Lowest
 mod Fronts
 mod Accepted
 mod Above
+mod FrontFits
 mod Standing
 mod Free
 mod DeduktiFits
