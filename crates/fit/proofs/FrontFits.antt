@@ -9,9 +9,10 @@ use native.Mathlib.Decide.{decLe}
 use lib.ListN.{getD}
 use Rattle.term.specs.declared.check.Checked.the-variants.{Good}
 use Rattle.term.specs.Word.{Head, symbol, abstraction, variable, pattern, count, InTable}
-use Rattle.term.specs.Row.{Row, node, Formed}
+use Rattle.term.specs.Row.{Row, node, width, Formed, _⧺_}
 use Rattle.term.specs.Check.{IsTerm}
-use Rattle.term.proofs.Laws.{never, count-symbol}
+use Rattle.term.specs.Renumber.{inside}
+use Rattle.term.proofs.Laws.{never, count-symbol, formed-node, firsts-join, others-join}
 use Rattle.book.specs.Book.{Rule, checkBook, ruleAt}
 use Rattle.fit.specs.Left.{Left, part}
 use Rattle.fit.specs.Fit.{build, IsBody, matching}
@@ -22,7 +23,8 @@ use Rattle.fit.proofs.Matching.{term-is-body}
 use Rattle.fit.proofs.Words.{GoodRule, same-term, sound, complete, unique, none-fits}
 use Rattle.fit.proofs.Accepted.{accepted-good}
 use Rattle.fit.proofs.Above.{good-part}
-use Rattle.fit.proofs.Fronts.{matching-front, root-arguments, front-body, front-and-aside, SymbolRoot, accepted-root, uncovered-none, covered-as, as-before}
+use Rattle.fit.proofs.Clauses.{build-part}
+use Rattle.fit.proofs.Fronts.{front-symbol, aside-symbol, aside-arguments-symbol, with-arguments-symbol, matching-front, root-arguments, front-body, front-and-aside, SymbolRoot, accepted-root, uncovered-none, covered-as, as-before}
 
 -- ---- one rule and one term
 module _ (vars : ℕ) (left : Left) (rule : GoodRule vars left) (t : Row) (i : IsBody t) where
@@ -60,6 +62,45 @@ module _ (vars : ℕ) (left : Left) (rule : GoodRule vars left) (t : Row) (i : I
   pub built-and-aside : (b : ℕ → Row) → FitsFront vars left t b → withArguments (build b 0 left) (asideArguments (rootArguments left) t) ≡ t
   built-and-aside b f =
       ap (λ (r : Row). withArguments r (asideArguments (rootArguments left) t)) (front-built b f) ∙ front-and-aside (rootArguments left) t (i .within .formed)
+
+-- ---- arguments put at the end are set aside again
+own-arguments : (i c : ℕ) (kids rest : Row) → Formed (node (symbol i c) kids rest) → width kids ≡ c
+own-arguments i c kids rest w = formed-node (symbol i c) kids rest w .full ∙ count-symbol i c
+
+pub front-with : (i c : ℕ) (kids rest more : Row) → Formed (node (symbol i c) kids rest) → front c (withArguments (node (symbol i c) kids rest) more) ≡ node (symbol i c) kids rest
+front-with i c kids rest more w =
+    ap (front c) (with-arguments-symbol i c kids rest more)
+    ∙ front-symbol c i (c + width more) (kids ⧺ more) rest (omega arith)
+    ∙ ap (λ (f : Row). node (symbol i c) f rest) (rw (own-arguments i c kids rest w) at (firsts-join kids more))
+
+pub aside-with : (i c : ℕ) (kids rest more : Row) → Formed (node (symbol i c) kids rest) → asideArguments c (withArguments (node (symbol i c) kids rest) more) ≡ more
+aside-with i c kids rest more w =
+    ap (asideArguments c) (with-arguments-symbol i c kids rest more)
+    ∙ aside-arguments-symbol c i (c + width more) (kids ⧺ more) rest
+    ∙ rw (own-arguments i c kids rest w) at (others-join kids more)
+
+pub many-with : (i c : ℕ) (kids rest more : Row) → aside c (withArguments (node (symbol i c) kids rest) more) ≡ width more
+many-with i c kids rest more =
+    ap (aside c) (with-arguments-symbol i c kids rest more) ∙ aside-symbol c i (c + width more) (kids ⧺ more) rest ∙ omega arith
+
+-- so what bodies build is matched with them, whatever arguments follow
+module _ (vars : ℕ) (left : Left) (rule : GoodRule vars left) (root : SymbolRoot left) (b : ℕ → Row) (bodies : (x : ℕ) → x < vars → IsBody (b x)) (i : IsBody (build b 0 left)) (more : Row) where
+  front-again : front (rootArguments left) (withArguments (build b 0 left) more) ≡ build b 0 left
+  front-again = inner left (root .is) (i .within .formed)
+    where
+      h : Head
+      h = symbol (root .ident) (root .arguments)
+
+      inner : (k : Left) → k ≡ part h (root .kids) (root .rest) → Formed (build b 0 k) → front (rootArguments k) (withArguments (build b 0 k) more) ≡ build b 0 k
+      inner k z w =
+          let p : build b 0 k ≡ node h (build b (inside h 0) (root .kids)) (build b 0 (root .rest)) = ap (build b 0) z ∙ build-part b 0 h (root .kids) (root .rest) in
+          let n : rootArguments k ≡ root .arguments = ap rootArguments z ∙ root-arguments h (root .kids) (root .rest) ∙ count-symbol (root .ident) (root .arguments) in
+          rw (p, n) (front-with (root .ident) (root .arguments) (build b (inside h 0) (root .kids)) (build b 0 (root .rest)) more (rw p at w))
+
+  pub built-front : (c : ℕ → Row) × (matchingFront left (withArguments (build b 0 left) more) ≡ some c) × ((x : ℕ) → x < vars → c x ≡ b x)
+  built-front =
+      let m = complete vars left rule (build b 0 left) (i .within) (i .one) b (record { bodies = bodies; same = refl }) in
+      (m .0, matching-front left (withArguments (build b 0 left) more) ∙ ap (matching left) front-again ∙ m .1, m .2)
 
 -- ---- the lowest rule
 pub lowest-front-zero : (book : List ℕ) (number : ℕ) (t : Row) → lowestFront book number 0 t ≡ none

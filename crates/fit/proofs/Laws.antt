@@ -58,5 +58,7 @@ pub use Rattle.fit.proofs.Fronts.{Through, through-argument, through-ch
 pub use Rattle.fit.proofs.Fronts.{SymbolRoot, accepted-root, covers-symbol, other-word, uncovered-none, CoveredAs, covered-as, as-before}
 -- Sound, complete and unique for fronts; the bodies build the front, and with the arguments set aside the term.
 pub use Rattle.fit.proofs.FrontFits.{front-sound, front-complete, front-unique, front-none, none-front, front-built, built-and-aside}
+-- Arguments put at the end are set aside again, so what bodies build is matched with them, whatever arguments follow.
+pub use Rattle.fit.proofs.FrontFits.{front-with, aside-with, many-with, built-front}
 -- The lowest rule that fits the term without the arguments set aside; where each count is the root's own it is the lowest that fits the term.
 pub use Rattle.fit.proofs.FrontFits.{lowest-front-zero, lowest-front-more, NoFront, LowestFrontFits, LowestFrontIs, lowest-front-is, book-lowest-front, JustAsMany, found-covers, aside-before, match-before, lowest-before}
