@@ -7,6 +7,8 @@ pub use Rattle.tree.proofs.Books.{AllGood, firstMatch, tree-first-match
 -- The tree of the rows of a book, with the root Switch of its own, finds the first rule that fits the term without the arguments set aside; where each count is
 -- the root's own this is the first that fits the term.
 pub use Rattle.tree.proofs.Roots.{firstFront, Rooted, rooted, AllRooted, root-tree-first, OneCount, root-same, rooted-rows, book-root-tree}
+-- With the arguments set aside counted this is the lowest rule of the book that fits the term without them.
+pub use Rattle.tree.proofs.RootLowest.{front-lowest, book-root-lowest, book-root-tree-lowest}
 -- A tree's layout: its length, and where its subtrees lie.
 pub use Rattle.tree.proofs.Layouts.{variables-none, variables-more, count-none, count-case, heads-none, heads-case, length-heads, length-layout, long-some, tree-words}
 pub use Rattle.tree.proofs.Layouts.{Lies, lies-inside, whole-lies, fail-lies, leaf-lies, CasesLie, SwitchLies, switch-lies, ClosedLies, closed-lies, SameLies, same-lies}

@@ -12,6 +12,7 @@ mod Finds
 mod Books
 mod RootHeads
 mod Roots
+mod RootLowest
 mod Layouts
 mod Walks
 mod Ways
