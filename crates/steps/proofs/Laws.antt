@@ -17,6 +17,8 @@ pub use Rattle.steps.proofs.Children.{right-formed, right-tree, ChildAt
 -- The right sides of an accepted book; what is written of them is one term, but for the limits.
 pub use Rattle.steps.proofs.RightRows.{parametersOf, right-row, accepted-right}
 pub use Rattle.steps.proofs.Shaped.{Shaped, formed-shaped, shaped-formed, width-written, few-written, shaped-written, limits-within}
+-- The written right side with the arguments set aside at its end: where it takes them, and what it then is.
+pub use Rattle.steps.proofs.Arguments.{TakesAs, takes-as, nothing-aside, takes-aside, refuses-aside, refused-aside, Taken, taken, aside-taken, aside-wide, aside-formed, aside-shaped, aside-few, aside-limits}
 -- Offsets: the part at an offset is read there, and replacing it replaces its words and no others.
 pub use Rattle.steps.proofs.Offsets.{part-words, spliced-words, PartOf, part-of, part-read, part-stands, part-end, Spliced, splice-keeps}
 -- The limits of the whole, from the part that is replaced, or by checking its words.

@@ -3,6 +3,7 @@ mod Replaced
 mod Writing
 mod RightRows
 mod Shaped
+mod Arguments
 mod Outside
 mod OnePass
 mod Children

@@ -1,5 +1,6 @@
 pub mod Right
 pub mod Rewrite
+pub mod Arguments
 pub mod Offset
 pub mod Step
 pub mod Simplify
