@@ -1,6 +1,6 @@
 -- Document 02, "Rules for a front part of the arguments": "The written right side gets the set-aside arguments at its end if its root is a symbol and the sum
 -- is at most 15." With nothing set aside it stays as it is, whatever its root.
-use Prim.Native.Nat.{ℕ, _+_}
+use Prim.Native.Nat.{_+_}
 use mathlib.Core.Bool.{Bool, false}
 use mathlib.Core.Option.{Option, none, some}
 use lib.Dec.{leb}

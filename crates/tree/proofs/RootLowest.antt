@@ -9,9 +9,8 @@ use Rattle.term.specs.declared.check.Checked.the-variants.{Good}
 use Rattle.term.specs.Row.{Row, width, Formed}
 use Rattle.term.specs.Check.{IsTerm}
 use Rattle.book.specs.Book.{Rule, checkBook, ruleAt}
-use Rattle.fit.specs.Match.{leftIn}
 use Rattle.fit.specs.Lowest.{Fitting, orNext}
-use Rattle.fit.specs.Front.{matchingFront, FrontFitting, orNextFront, matchingFrontO, asideO, lowestFront, counted}
+use Rattle.fit.specs.Front.{FrontFitting, orNextFront, matchingFrontO, asideO, lowestFront, counted}
 use Rattle.fit.proofs.Laws.{lowest-front-zero, lowest-front-more, LowestFrontIs, book-lowest-front}
 use Rattle.tree.specs.Rows.{RuleRow}
 use Rattle.tree.specs.Compile.{rowThen, bookRows}
