@@ -15,6 +15,8 @@ pub use Rattle.tree.proofs.Layouts.{Lies, lies-inside, whole-lies, fail
 -- How a tree is walked in a term, and that the tree of an accepted book is walked soundly to the lowest rule that fits.
 pub use Rattle.tree.proofs.Walks.{SoundVariable, AllSound, SoundPlace, Takes, takesFirst, takesLater, NoneTaken, noCases, otherCase, Walks, fails, ends, takes, defaults, closedYes, closedNo, sameYes, sameNo}
 pub use Rattle.tree.proofs.Ways.{RowFacts, AllFacts, tree-walks, CountsAre, varsOf, varsIn, FitsBook, book-walks}
+-- With its own root Switch the tree of an accepted book is walked soundly to the first rule that fits the term without the arguments set aside.
+pub use Rattle.tree.proofs.RootWays.{root-walks, book-root-walks}
 -- Each uncovered place is another part of the term.
 pub use Rattle.tree.proofs.Totals.{length-total, total-entered, total-root}
 -- Uncovered places: the clauses of their definitions.

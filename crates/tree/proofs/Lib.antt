@@ -16,6 +16,7 @@ mod RootLowest
 mod Layouts
 mod Walks
 mod Ways
+mod RootWays
 mod Clauses
 mod Kept
 mod Totals

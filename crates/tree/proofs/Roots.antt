@@ -137,7 +137,7 @@ depth-node : (h : Head) (ts rs : Row) → depthUnder (node h ts rs) (0 ∷ []) �
 unfolding depthUnder
 depth-node h ts rs = rw (under-root (node h ts rs), tree-first h ts rs) (inside-of h ts nothing 0)
 
-same-depth : (j b a : ℕ) (ts rs : Row) → b ≤ a → depthUnder (front b (node (symbol j a) ts rs)) (0 ∷ []) ≡ depthUnder (node (symbol j a) ts rs) (0 ∷ [])
+pub same-depth : (j b a : ℕ) (ts rs : Row) → b ≤ a → depthUnder (front b (node (symbol j a) ts rs)) (0 ∷ []) ≡ depthUnder (node (symbol j a) ts rs) (0 ∷ [])
 same-depth j b a ts rs l =
     ap (λ (f : Row). depthUnder f (0 ∷ [])) (front-symbol b j a ts rs l)
     ∙ depth-node (symbol j b) (firsts b ts) rs ∙ inside-symbol j b 0 ∙ sym (depth-node (symbol j a) ts rs ∙ inside-symbol j a 0)
@@ -157,7 +157,7 @@ module _ (b : ℕ) (t : Row) (d : depthUnder (front b t) (0 ∷ []) ≡ depthUnd
   depth-at-inner k l [] = d
   depth-at-inner k l (i ∷ q) = depth-inner k l q
 
-  depth-front : (p : Place) → Through b p → depthAt (front b t) p ≡ depthAt t p
+  pub depth-front : (p : Place) → Through b p → depthAt (front b t) p ≡ depthAt t p
   depth-front p s = rw (s .is) at (depth-at-inner (s .argument) (s .few) (s .inner))
 
   body-front : (p : Place) → Through b p → (ys : List ℕ) → bodyThere (front b t) p ys ≡ bodyThere t p ys
@@ -192,14 +192,14 @@ through-left j b kids n =
 
 -- ---- a row that covers the root
 module _ (j b a : ℕ) (ts rs : Row) (l : b ≤ a) (row : RuleRow) (kids : Left) (e : row .left ≡ part (symbol j b) kids end) (n : wide kids ≡ b) where
-  opens : openFits (node (symbol j a) ts rs) (row .left) (enter 0 a (root ∷ [])) ≡ openFits (front b (node (symbol j a) ts rs)) (row .left) (root ∷ [])
+  pub opens : openFits (node (symbol j a) ts rs) (row .left) (enter 0 a (root ∷ [])) ≡ openFits (front b (node (symbol j a) ts rs)) (row .left) (root ∷ [])
   opens = inner (row .left) e
     where
       inner : (left : Left) → left ≡ part (symbol j b) kids end
           → openFits (node (symbol j a) ts rs) left (enter 0 a (root ∷ [])) ≡ openFits (front b (node (symbol j a) ts rs)) left (root ∷ [])
       inner left z = rw z (open-front j b a ts rs l kids n)
 
-  named : Each (λ o. Through b (o .place)) (occurrences [] 0 0 (row .left))
+  pub named : Each (λ o. Through b (o .place)) (occurrences [] 0 0 (row .left))
   named = inner (row .left) e
     where
       inner : (left : Left) → left ≡ part (symbol j b) kids end → Each (λ o. Through b (o .place)) (occurrences [] 0 0 left)
@@ -290,7 +290,7 @@ root-covered left r a l = inner left (r .is)
     inner : (k : Left) → k ≡ part (symbol (r .ident) (r .arguments)) (r .kids) end → Covered (enter 0 a (root ∷ [])) [] 0 k
     inner k z = rw z (inr (children-covered (enter 0 a (root ∷ [])) (0 ∷ []) a (child-waiting a) 0 (r .kids) (omega (arith, r .full, l))), tt)
 
-live-covered : (g : Head) (row : RuleRow) → GoodRule (row .vars) (row .left) → Rooted (row .left) → covers (row .left) g ≡ true → Live (enter 0 (count g) (root ∷ [])) row
+pub live-covered : (g : Head) (row : RuleRow) → GoodRule (row .vars) (row .left) → Rooted (row .left) → covers (row .left) g ≡ true → Live (enter 0 (count g) (root ∷ [])) row
 live-covered g row good r e =
     let c = covered-as (r .ident) (r .arguments) (r .kids) end g (rw (r .is) at e) in
     let n : count g ≡ c .arguments = ap count (c .is) ∙ count-symbol (r .ident) (c .arguments) in
@@ -356,13 +356,13 @@ module _ (all : List RuleRow) (g : Head) (ts rs : Row) (w : Formed (node g ts rs
       go true e = absurd (no-root (r .ident) (r .arguments) (inn (r .ident) (r .arguments) (ap headHere (r .is))) (covered-as (r .ident) (r .arguments) (r .kids) end g (rw (r .is) at e)))
       go false e = row-uncovered g ts rs w left r e
 
-  none-first : (rows : List RuleRow) → AllRooted rows → ((i b : ℕ) → Stands i b rows → Stands i b all) → firstFront (node g ts rs) rows ≡ none
+  pub none-first : (rows : List RuleRow) → AllRooted rows → ((i b : ℕ) → Stands i b rows → Stands i b all) → firstFront (node g ts rs) rows ≡ none
   unfolding firstFront
   none-first [] s inn = refl
   none-first (row ∷ rows) s inn = rw (row-none (row .left) (s .0) (λ i b z. inn i b (inl z))) (none-first rows (s .1) (λ i b z. inn i b (inr z)))
 
 -- ---- THE THEOREM: the tree of a book's rows finds the first that fits the term without the arguments set aside, with its bodies
-head-is-root : (h g : Head) (ts rs : Row) → InTable h → Formed (node g ts rs) → isHead h (node g ts rs) ≡ true → g ≡ h
+pub head-is-root : (h g : Head) (ts rs : Row) → InTable h → Formed (node g ts rs) → isHead h (node g ts rs) ≡ true → g ≡ h
 head-is-root h g ts rs i w e = sym (same-head h g i (formed-node g ts rs w .table) (eqb-true (word h) (word g) (sym (head-node h g ts rs) ∙ e)))
 
 root-switch : (g : Head) (ts rs : Row) → Formed (node g ts rs) → width (node g ts rs) ≡ 1 → (rows : List RuleRow) → AllGood rows → AllRooted rows

@@ -16,7 +16,7 @@ use Rattle.book.specs.Rule.{counted}
 use Rattle.book.specs.Book.{Rule, checkBook, ruleAt}
 use Rattle.book.proofs.Laws.{book-rule, book-rules, rule-number}
 use Rattle.fit.specs.Fit.{matching}
-use Rattle.fit.specs.Constraint.{Place, treeAt, isHead, shapeFits, Occurrence, occurrences, firstOf, Constraint, closedAt, sameAt, constraints}
+use Rattle.fit.specs.Constraint.{Place, treeAt, isHead, Occurrence, occurrences, firstOf, Constraint, closedAt, sameAt, constraints}
 use Rattle.fit.specs.Match.{leftIn}
 use Rattle.fit.specs.Lowest.{Fitting, lowest}
 use Rattle.fit.proofs.Laws.{GoodRule, isMatch, Each, first-each, IsThere, Names, EachNames, constraints-name, FirstBody, matched-first, accepted-good, occurs-first, OneVariable, constraints-one, first-variable, Counted, rule-counted}
@@ -74,13 +74,14 @@ pub record RowFacts (vars : ℕ → ℕ) (fits : LeafNode → Bool) (row : RuleR
   pub one : OneLength (constraints (row .left))
 
 module _ (vars : ℕ → ℕ) (fits : LeafNode → Bool) (t : Row) (w : Formed t) (wide : width t ≡ 1) where
-  record Known (path : OnPath) (row : RuleRow) : Type 0 where
-    live : Live (path .uncovered) row
-    facts : RowFacts vars fits row
-    shape : openFits t (row .left) (path .uncovered) ≡ shapeFits t [] 0 (row .left)
-    fit : rowFits t path row ≡ isMatch (matching (row .left) t)
+  -- what is known of a row on a path: where the term has the shape that is left in it, its places have the depths they are written with; where it fits, its variables have bodies
+  pub record Known (path : OnPath) (row : RuleRow) : Type 0 where
+    pub live : Live (path .uncovered) row
+    pub facts : RowFacts vars fits row
+    pub deep : openFits t (row .left) (path .uncovered) ≡ true → Each (DepthIs t) (occurrences [] 0 0 (row .left))
+    pub bodies : rowFits t path row ≡ true → (b : ℕ → Row) × ((x : ℕ) → FirstBody t (firstOf x (occurrences [] 0 0 (row .left))) (b x))
 
-  abbrev AllKnown : OnPath → List RuleRow → Type 0
+  abbrev pub AllKnown : OnPath → List RuleRow → Type 0
   AllKnown path [] = Unit {0}
   AllKnown path (row ∷ rows) = Known path row × AllKnown path rows
 
@@ -95,8 +96,8 @@ module _ (vars : ℕ → ℕ) (fits : LeafNode → Bool) (t : Row) (w : Formed t
       record {
         live = rw (entering-places n h path) (live-entered (path .uncovered) n h i row (k .live) b);
         facts = k .facts;
-        shape = rw (entering-places n h path) (case-open t path n new h i here row (k .live) (headAt (row .left) (placeNumbered n (path .uncovered))) refl b ∙ k .shape);
-        fit = case-fits t path n new h i here row (k .live) b ∙ k .fit;
+        deep = rw (entering-places n h path) (λ e. k .deep (sym (case-open t path n new h i here row (k .live) (headAt (row .left) (placeNumbered n (path .uncovered))) refl b) ∙ e));
+        bodies = λ e. k .bodies (sym (case-fits t path n new h i here row (k .live) b) ∙ e);
       }
 
   known-case : (path : OnPath) (n : ℕ) → enteredOf n (path .uncovered) ≡ false → (h : Head) → InTable h → isHead h (treeAt t (placeNumbered n (path .uncovered))) ≡ true
@@ -130,7 +131,7 @@ module _ (vars : ℕ → ℕ) (fits : LeafNode → Bool) (t : Row) (w : Formed t
 
   held-row : (path : OnPath) (c : Constraint) → Names ListIs c → holdsIn t c ≡ true → (row : RuleRow) → Known path row → Known (holding c path) row
   unfolding holding
-  held-row path c n h row k = record { live = k .live; facts = k .facts; shape = k .shape; fit = yes-row t path c n h row (k .live) ∙ k .fit }
+  held-row path c n h row k = record { live = k .live; facts = k .facts; deep = k .deep; bodies = λ e. k .bodies (sym (yes-row t path c n h row (k .live)) ∙ e) }
 
   known-holding : (path : OnPath) (c : Constraint) → Names ListIs c → holdsIn t c ≡ true → (rows : List RuleRow) → AllKnown path rows → AllKnown (holding c path) rows
   known-holding path c n h [] a = tt
@@ -143,7 +144,7 @@ module _ (vars : ℕ → ℕ) (fits : LeafNode → Bool) (t : Row) (w : Formed t
       record { here = omega (arith, length-parts t us, number-less (o .place) us i); list = rw e g }
 
   row-depths : (path : OnPath) (row : RuleRow) → Known path row → lowestOpen (row .left) (path .uncovered) ≡ none → Each (DepthIs t) (occurrences [] 0 0 (row .left))
-  row-depths path row k e = depths-start t w wide row (k .facts .good) (sym (k .shape) ∙ variables-fit t (row .left) (path .uncovered) e)
+  row-depths path row k e = k .deep (variables-fit t (row .left) (path .uncovered) e)
 
   row-lists : (row : RuleRow) → RowFacts vars fits row → Each GoodListIs (occurrences [] 0 0 (row .left))
   row-lists row f = good-lists (row .vars) [] 0 0 (row .left) (f .good .good)
@@ -168,10 +169,6 @@ module _ (vars : ℕ → ℕ) (fits : LeafNode → Bool) (t : Row) (w : Formed t
   variables-sound us os i d g b f (suc more) y h =
       (variable-sound us os i d g y (b y) (firstOf y os) refl (h y (omega arith) (omega arith)) (f y), variables-sound us os i d g b f more (suc y) (λ z p q. h z (omega arith) (omega arith)))
 
-  some-match : (o : Option (ℕ → Row)) → isMatch o ≡ true → (b : ℕ → Row) × (o ≡ some b)
-  some-match none e = never (cc)
-  some-match (some b) e = (b, refl)
-
   row-fits : (path : OnPath) (row : RuleRow) → lowestOpen (row .left) (path .uncovered) ≡ none → constraintsLeft path row ≡ [] → rowFits t path row ≡ true
   unfolding rowFits allIn
   row-fits path row e q = rw (variables-fit t (row .left) (path .uncovered) e, q)
@@ -182,12 +179,11 @@ module _ (vars : ℕ → ℕ) (fits : LeafNode → Bool) (t : Row) (w : Formed t
   leaf-way path row rows k e q =
       let us = path .uncovered in
       let os = occurrences [] 0 0 (row .left) in
-      let m = some-match (matching (row .left) t) (sym (k .fit) ∙ row-fits path row e q) in
-      let g = k .facts .good in
+      let m = k .bodies (row-fits path row e q) in
       let i = row-within path row (k .live) e in
       let n : length (variablesFrom us os 0 (row .vars)) ≡ row .vars = many-variables us os (row .vars) 0 in
       let few : length (variablesFrom us os 0 (row .vars)) ≤ 16 = omega (arith, n, k .facts .few) in
-      let s = variables-sound us os i (row-depths path row k e) (row-lists row (k .facts)) (m .0) (λ x. matched-first (row .vars) (row .left) t (m .0) x (g .good) (g .one ∙ sym wide) w (m .1)) (row .vars) 0 (λ z a b. k .live .there z (omega arith)) in
+      let s = variables-sound us os i (row-depths path row k e) (row-lists row (k .facts)) (m .0) (m .1) (row .vars) 0 (λ z a b. k .live .there z (omega arith)) in
       rw (first-fits t path row rows e q, ← leaf-bodies t us row (k .live) i)
       (ends {leaf = leafNodeOf us row} (k .facts .low) few (n ∙ k .facts .as-many) (k .facts .counts us) s)
 
@@ -306,14 +302,27 @@ module _ (vars : ℕ → ℕ) (fits : LeafNode → Bool) (t : Row) (w : Formed t
   way-by zero path rows h k = absurd (omega arith)
   way-by (suc n) path rows h k = rw (compile-is path rows) (step-way compile path rows k (λ p rs q l. way-by n p rs (omega arith) l))
 
+  -- the tree of rows that are known is walked to the first that fits
+  pub path-walks : (path : OnPath) (rows : List RuleRow) → AllKnown path rows → Walks vars fits (compile path rows) (partsAt t (path .uncovered)) (firstFit t path rows)
+  path-walks path rows k = way-by (suc (size path rows)) path rows (omega arith) k
+
   -- ---- a path begins
+  some-match : (o : Option (ℕ → Row)) → isMatch o ≡ true → (b : ℕ → Row) × (o ≡ some b)
+  some-match none e = never (cc)
+  some-match (some b) e = (b, refl)
+
+  pub start-bodies : (row : RuleRow) → GoodRule (row .vars) (row .left) → rowFits t start row ≡ true → (b : ℕ → Row) × ((x : ℕ) → FirstBody t (firstOf x (occurrences [] 0 0 (row .left))) (b x))
+  start-bodies row g e =
+      let m = some-match (matching (row .left) t) (sym (start-fits t w wide row g) ∙ e) in
+      (m .0, λ x. matched-first (row .vars) (row .left) t (m .0) x (g .good) (g .one ∙ sym wide) w (m .1))
+
   known-start : (row : RuleRow) → RowFacts vars fits row → Known start row
   known-start row f =
       record {
         live = live-start row (f .good);
         facts = f;
-        shape = start-open t (row .left) (f .good .one);
-        fit = start-fits t w wide row (f .good);
+        deep = λ e. depths-start t w wide row (f .good) (sym (start-open t (row .left) (f .good .one)) ∙ e);
+        bodies = start-bodies row (f .good);
       }
 
   abbrev pub AllFacts : List RuleRow → Type 0
@@ -324,14 +333,14 @@ module _ (vars : ℕ → ℕ) (fits : LeafNode → Bool) (t : Row) (w : Formed t
   all-known [] a = tt
   all-known (row ∷ rows) a = (known-start row (a .0), all-known rows (a .1))
 
-  all-good : (rows : List RuleRow) → AllFacts rows → AllGood rows
+  pub all-good : (rows : List RuleRow) → AllFacts rows → AllGood rows
   all-good [] a = tt
   all-good (row ∷ rows) a = (a .0 .good, all-good rows (a .1))
 
   -- THE THEOREM: the tree of the rows of rules is walked soundly, to the first rule that fits
   pub tree-walks : (rows : List RuleRow) → AllFacts rows → Walks vars fits (compile start rows) (rootPart t) (firstMatch t rows)
   tree-walks rows a =
-      rw (← first-match t w wide rows (all-good rows a), ← root-parts t wide) (way-by (suc (size start rows)) start rows (omega arith) (all-known rows a))
+      rw (← first-match t w wide rows (all-good rows a), ← root-parts t wide) (path-walks start rows (all-known rows a))
 
 -- ---- the rows of an accepted book
 -- the counts of the variables from x on
@@ -388,7 +397,7 @@ module _ (book : List ℕ) (accepted : checkBook book ≡ Good) (fits : LeafNode
     facts-then number rows a none e = a
     facts-then number rows a (some rule) e = (rule-facts number rule e, a)
 
-    book-facts : (more number : ℕ) → AllFacts (varsIn book) fits t w wide (bookRows book number more)
+    pub book-facts : (more number : ℕ) → AllFacts (varsIn book) fits t w wide (bookRows book number more)
     unfolding bookRows
     book-facts zero number = tt
     book-facts (suc more) number = facts-then number (bookRows book (suc number) more) (book-facts more (suc number)) (ruleAt book number) refl
