@@ -1,7 +1,7 @@
--- Document 01, "Numbers it answers with": the number and the place of each answer.
+-- Document 01, "Numbers it answers with": the number and the place of each answer. Document 02 adds 18, "result can't take the arguments (if any), at = their number".
 use Prim.Native.Nat.{ℕ}
 use Rattle.term.specs.declared.answer.Answer.{Answer}
-use Rattle.term.specs.declared.answer.Answer.the-variants.{Done, NoFit, BudgetUsed, BadText, BadTerm, BadBook, Short, Damaged, Over, NoRule}
+use Rattle.term.specs.declared.answer.Answer.the-variants.{Done, NoFit, BudgetUsed, BadText, BadTerm, BadBook, Short, Damaged, Over, NoRule, CannotTake}
 
 abbrev pub numberOf : Answer → ℕ
 numberOf Done = 0
@@ -14,6 +14,7 @@ numberOf Short = 13
 numberOf (Damaged at) = 14
 numberOf Over = 15
 numberOf (NoRule at) = 16
+numberOf (CannotTake at) = 18
 
 abbrev pub placeOf : Answer → ℕ
 placeOf Done = 0
@@ -26,6 +27,7 @@ placeOf Short = 0
 placeOf (Damaged at) = at
 placeOf Over = 0
 placeOf (NoRule at) = at
+placeOf (CannotTake at) = at
 
 -- what an answer says: document 01's number, and the place beside it
 pub record Answered : Type 0 where

@@ -1,4 +1,4 @@
-// Document 01's "Numbers it answers with".
+// Document 01's "Numbers it answers with", and document 02's 18: what is written cannot take the arguments set aside.
 ghost use mathlib.Core.Path.{_≡_};
 ghost use Rattle.term.specs.Answer.{numberOf, placeOf};
 
@@ -13,6 +13,7 @@ pub enum Answer {
     Damaged(usize),
     Over,
     NoRule(u32),
+    CannotTake(u32),
 }
 
 // The number of the table.
@@ -30,6 +31,7 @@ pub fn number(answer: Answer) -> u32
         Answer::Damaged(_) => 14,
         Answer::Over => 15,
         Answer::NoRule(_) => 16,
+        Answer::CannotTake(_) => 18,
     }
 }
 
@@ -43,6 +45,7 @@ pub fn place(answer: Answer) -> usize
         Answer::BadBook(at) => at,
         Answer::Damaged(at) => at,
         Answer::NoRule(at) => at as usize,
+        Answer::CannotTake(at) => at as usize,
         Answer::Done => 0,
         Answer::NoFit => 0,
         Answer::BudgetUsed => 0,
