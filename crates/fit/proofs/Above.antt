@@ -448,6 +448,6 @@ unfolding lowest
 lowest-zero book number t = refl
 
 pub lowest-more : (book : List ℕ) (number more : ℕ) (t : Row)
-    → lowest book number (suc more) t ≡ orNext number (matchingO (ruleAt book number) t) (lowest book (suc number) more t)
+    → lowest book number (suc more) t ≡ orNext number 0 (matchingO (ruleAt book number) t) (lowest book (suc number) more t)
 unfolding lowest
 lowest-more book number more t = refl

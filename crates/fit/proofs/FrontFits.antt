@@ -3,7 +3,7 @@ use mathlib.Core.Path.{_≡_, refl, sym, ap, _∙_}
 use mathlib.Core.Bool.{Bool, true, false}
 use mathlib.Core.List.{List}
 use mathlib.Core.Option.{Option, none, some}
-use Prim.Native.Nat.{ℕ, zero, suc, _+_, _≤_, _<_}
+use Prim.Native.Nat.{ℕ, zero, suc, _+_, _-_, _≤_, _<_}
 use native.Mathlib.Omega.{arith}
 use native.Mathlib.Decide.{decLe}
 use lib.ListN.{getD}
@@ -17,14 +17,14 @@ use Rattle.book.specs.Book.{Rule, checkBook, ruleAt}
 use Rattle.fit.specs.Left.{Left, part}
 use Rattle.fit.specs.Fit.{build, IsBody, matching}
 use Rattle.fit.specs.Match.{leftIn}
-use Rattle.fit.specs.Lowest.{Fitting, orNext, matchingO, lowest}
-use Rattle.fit.specs.Front.{rootArguments, front, aside, asideArguments, withArguments, matchingFront, covers, FitsFront, FrontFitting, orNextFront, matchingFrontO, asideO, lowestFront, noneAside}
+use Rattle.fit.specs.Lowest.{Fitting, orNext, matchingO, lowest, matchingFrontO, asideO, lowestFront}
+use Rattle.fit.specs.Front.{rootArguments, front, aside, asideArguments, withArguments, matchingFront, covers, FitsFront}
 use Rattle.fit.proofs.Matching.{term-is-body}
 use Rattle.fit.proofs.Words.{GoodRule, same-term, sound, complete, unique, none-fits}
 use Rattle.fit.proofs.Accepted.{accepted-good}
 use Rattle.fit.proofs.Above.{good-part}
 use Rattle.fit.proofs.Clauses.{build-part}
-use Rattle.fit.proofs.Fronts.{front-symbol, aside-symbol, aside-arguments-symbol, with-arguments-symbol, matching-front, root-arguments, front-body, front-and-aside, SymbolRoot, accepted-root, uncovered-none, covered-as, as-before}
+use Rattle.fit.proofs.Fronts.{front-symbol, aside-node, aside-arguments-node, with-arguments-symbol, matching-front, root-arguments, front-body, front-and-aside, SymbolRoot, accepted-root, uncovered-none, covered-as, as-before}
 
 -- ---- one rule and one term
 module _ (vars : ℕ) (left : Left) (rule : GoodRule vars left) (t : Row) (i : IsBody t) where
@@ -76,12 +76,12 @@ front-with i c kids rest more w =
 pub aside-with : (i c : ℕ) (kids rest more : Row) → Formed (node (symbol i c) kids rest) → asideArguments c (withArguments (node (symbol i c) kids rest) more) ≡ more
 aside-with i c kids rest more w =
     ap (asideArguments c) (with-arguments-symbol i c kids rest more)
-    ∙ aside-arguments-symbol c i (c + width more) (kids ⧺ more) rest
+    ∙ aside-arguments-node c (symbol i (c + width more)) (kids ⧺ more) rest
     ∙ rw (own-arguments i c kids rest w) at (others-join kids more)
 
 pub many-with : (i c : ℕ) (kids rest more : Row) → aside c (withArguments (node (symbol i c) kids rest) more) ≡ width more
 many-with i c kids rest more =
-    ap (aside c) (with-arguments-symbol i c kids rest more) ∙ aside-symbol c i (c + width more) (kids ⧺ more) rest ∙ omega arith
+    ap (aside c) (with-arguments-symbol i c kids rest more) ∙ aside-node c (symbol i (c + width more)) (kids ⧺ more) rest ∙ ap (λ (n : ℕ). n - c) (count-symbol i (c + width more)) ∙ omega arith
 
 -- so what bodies build is matched with them, whatever arguments follow
 module _ (vars : ℕ) (left : Left) (rule : GoodRule vars left) (root : SymbolRoot left) (b : ℕ → Row) (bodies : (x : ℕ) → x < vars → IsBody (b x)) (i : IsBody (build b 0 left)) (more : Row) where
@@ -108,7 +108,7 @@ unfolding lowestFront
 lowest-front-zero book number t = refl
 
 pub lowest-front-more : (book : List ℕ) (number more : ℕ) (t : Row)
-    → lowestFront book number (suc more) t ≡ orNextFront number (asideO (ruleAt book number) t) (matchingFrontO (ruleAt book number) t) (lowestFront book (suc number) more t)
+    → lowestFront book number (suc more) t ≡ orNext number (asideO (ruleAt book number) t) (matchingFrontO (ruleAt book number) t) (lowestFront book (suc number) more t)
 unfolding lowestFront
 lowest-front-more book number more t = refl
 
@@ -116,7 +116,7 @@ lowest-front-more book number more t = refl
 abbrev pub NoFront : List ℕ → ℕ → Row → Type 0
 NoFront book number t = (rule : Rule) → ruleAt book number ≡ some rule → (b : ℕ → Row) → FitsFront (rule .vars) (leftIn rule) t b → ⊥
 
-pub record LowestFrontFits (book : List ℕ) (number last : ℕ) (t : Row) (f : FrontFitting) : Type 0 where
+pub record LowestFrontFits (book : List ℕ) (number last : ℕ) (t : Row) (f : Fitting) : Type 0 where
   pub rule : Rule
   pub found : ruleAt book (f .number) ≡ some rule
   pub fits : FitsFront (rule .vars) (leftIn rule) t (f .bodies)
@@ -126,7 +126,7 @@ pub record LowestFrontFits (book : List ℕ) (number last : ℕ) (t : Row) (f : 
   pub earlier : (r : ℕ) → number ≤ r → r < f .number → NoFront book r t
 
 -- the lowest of the rules from `number` to `last` that fits the term without the arguments set aside, with their number and its bodies, or none
-abbrev pub LowestFrontIs : List ℕ → ℕ → ℕ → Row → Option FrontFitting → Type 0
+abbrev pub LowestFrontIs : List ℕ → ℕ → ℕ → Row → Option Fitting → Type 0
 LowestFrontIs book number last t none = (r : ℕ) → number ≤ r → r < last → NoFront book r t
 LowestFrontIs book number last t (some f) = LowestFrontFits book number last t f
 
@@ -158,8 +158,8 @@ module _ (book : List ℕ) (t : Row) (i : IsBody t) (good : (r : ℕ) (rule : Ru
       go (yes p) = next r p h
       go (no p) = let z : r ≡ number = omega arith in rw z here
 
-  step : (number last : ℕ) → number < last → (o : Option (ℕ → Row)) → matchingFrontO (ruleAt book number) t ≡ o → (q : Option FrontFitting) → LowestFrontIs book (suc number) last t q
-      → LowestFrontIs book number last t (orNextFront number (asideO (ruleAt book number) t) o q)
+  step : (number last : ℕ) → number < last → (o : Option (ℕ → Row)) → matchingFrontO (ruleAt book number) t ≡ o → (q : Option Fitting) → LowestFrontIs book (suc number) last t q
+      → LowestFrontIs book number last t (orNext number (asideO (ruleAt book number) t) o q)
   step number last l none e none h = λ r a b. from-next number last (no-front number (ruleAt book number) refl e) r a h b
   step number last l none e (some f) h =
       record {
@@ -193,10 +193,7 @@ JustAsMany left g = covers left g ≡ true → rootArguments left ≡ count g
 
 aside-itself : (g : Head) (ts rs : Row) → aside (count g) (node g ts rs) ≡ 0
 unfolding aside
-aside-itself (symbol i a) ts rs = rw (count-symbol i a) (omega arith)
-aside-itself abstraction ts rs = refl
-aside-itself (variable i) ts rs = refl
-aside-itself (pattern i c) ts rs = refl
+aside-itself g ts rs = omega arith
 
 -- what fits covers the root
 part-covers : (j b : ℕ) (kids rest : Left) (g : Head) (ts rs : Row) → InTable (symbol j b) → Formed (node g ts rs) → (c : ℕ → Row)
@@ -241,22 +238,22 @@ module _ (book : List ℕ) (accepted : checkBook book ≡ Good) (g : Head) (ts r
       good-part (rule .vars) 0 (symbol (s .ident) (s .arguments)) (s .kids) (s .rest) (rw (s .is) at (accepted-good book accepted number rule e .good)) .0
 
   rule-before : (number : ℕ) (rule : Rule) → ruleAt book number ≡ some rule → (o : Option (ℕ → Row)) → matchingFront (leftIn rule) (node g ts rs) ≡ o
-      → (p : Option FrontFitting) (q : Option Fitting) → p ≡ noneAside q
-      → orNextFront number (aside (rootArguments (leftIn rule)) (node g ts rs)) o p ≡ noneAside (orNext number o q)
+      → (p : Option Fitting) (q : Option Fitting) → p ≡ q
+      → orNext number (aside (rootArguments (leftIn rule)) (node g ts rs)) o p ≡ orNext number 0 o q
   rule-before number rule e none m p q r = r
   rule-before number rule e (some b) m p q r =
       ap (λ (n : ℕ). some (record { number = number; aside = n; bodies = b }))
       (aside-before (leftIn rule) (accepted-root book accepted number rule e) (table-of number rule e) g ts rs w (few number rule e) b m)
 
-  step-before : (number : ℕ) (o : Option Rule) → ruleAt book number ≡ o → (p : Option FrontFitting) (q : Option Fitting) → p ≡ noneAside q
-      → orNextFront number (asideO o (node g ts rs)) (matchingFrontO o (node g ts rs)) p ≡ noneAside (orNext number (matchingO o (node g ts rs)) q)
+  step-before : (number : ℕ) (o : Option Rule) → ruleAt book number ≡ o → (p : Option Fitting) (q : Option Fitting) → p ≡ q
+      → orNext number (asideO o (node g ts rs)) (matchingFrontO o (node g ts rs)) p ≡ orNext number 0 (matchingO o (node g ts rs)) q
   step-before number none e p q r = r
   step-before number (some rule) e p q r =
       rule-before number rule e (matchingFront (leftIn rule) (node g ts rs)) refl p q r
-      ∙ ap (λ (m : Option (ℕ → Row)). noneAside (orNext number m q))
+      ∙ ap (λ (m : Option (ℕ → Row)). orNext number 0 m q)
       (match-before (leftIn rule) (accepted-root book accepted number rule e) (table-of number rule e) g ts rs w (few number rule e))
 
-  pub lowest-before : (more number : ℕ) → lowestFront book number more (node g ts rs) ≡ noneAside (lowest book number more (node g ts rs))
+  pub lowest-before : (more number : ℕ) → lowestFront book number more (node g ts rs) ≡ lowest book number more (node g ts rs)
   unfolding lowestFront lowest
   lowest-before zero number = refl
   lowest-before (suc more) number =

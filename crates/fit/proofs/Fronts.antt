@@ -50,13 +50,13 @@ pub front-pattern : (b i c : ℕ) (kids rest : Row) → front b (node (pattern i
 unfolding front
 front-pattern b i c kids rest = refl
 
-pub aside-symbol : (b i a : ℕ) (kids rest : Row) → aside b (node (symbol i a) kids rest) ≡ a - b
+pub aside-node : (b : ℕ) (h : Head) (kids rest : Row) → aside b (node h kids rest) ≡ count h - b
 unfolding aside
-aside-symbol b i a kids rest = refl
+aside-node b h kids rest = refl
 
-pub aside-arguments-symbol : (b i a : ℕ) (kids rest : Row) → asideArguments b (node (symbol i a) kids rest) ≡ others b kids
+pub aside-arguments-node : (b : ℕ) (h : Head) (kids rest : Row) → asideArguments b (node h kids rest) ≡ others b kids
 unfolding asideArguments
-aside-arguments-symbol b i a kids rest = refl
+aside-arguments-node b h kids rest = refl
 
 pub with-arguments-symbol : (i c : ℕ) (kids rest more : Row) → withArguments (node (symbol i c) kids rest) more ≡ node (symbol i (c + width more)) (kids ⧺ more) rest
 unfolding withArguments
@@ -187,10 +187,7 @@ width-past b a kids n = go (leb b a) refl
 pub width-aside : (b : ℕ) (t : Row) → Formed t → width (asideArguments b t) ≡ aside b t
 unfolding aside asideArguments
 width-aside b nothing w = width-nothing
-width-aside b (node (symbol i a) kids rest) w = width-past b a kids (formed-node (symbol i a) kids rest w .full ∙ count-symbol i a)
-width-aside b (node abstraction kids rest) w = width-nothing
-width-aside b (node (variable i) kids rest) w = width-nothing
-width-aside b (node (pattern i c) kids rest) w = width-nothing
+width-aside b (node h kids rest) w = width-past b (count h) kids (formed-node h kids rest w .full)
 
 -- ---- below the arguments that stay nothing changes
 -- the way from the root to a place goes through one of the first b arguments

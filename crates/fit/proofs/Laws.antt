@@ -51,7 +51,7 @@ pub use Rattle.fit.proofs.Outcomes.{match-came, came-match, BuildAnswer
 pub use Rattle.fit.proofs.DeduktiFits.{as-dedukti}
 pub use Rattle.fit.proofs.Free.{body-free, free-body}
 -- The front of a term: as before where the counts are equal, a term again, with the arguments set aside the term, and unchanged below the arguments that stay.
-pub use Rattle.fit.proofs.Fronts.{front-nothing, front-symbol, front-fewer, front-abstraction, front-variable, front-pattern, aside-symbol, aside-arguments-symbol, with-arguments-symbol, matching-front, root-arguments}
+pub use Rattle.fit.proofs.Fronts.{front-nothing, front-symbol, front-fewer, front-abstraction, front-variable, front-pattern, aside-node, aside-arguments-node, with-arguments-symbol, matching-front, root-arguments}
 pub use Rattle.fit.proofs.Fronts.{front-same, width-front, front-formed, front-within, front-body, front-and-aside, width-aside}
 pub use Rattle.fit.proofs.Fronts.{Through, through-argument, through-child, tree-front, under-front, treeAt-front, shape-front, through-each}
 -- The root of a left side, and that it does not fit where the term's root is not covered.

@@ -42,7 +42,7 @@ module _ (book : List ℕ) (t : Row) (w : WithinTerm t) (one : width t ≡ 1) (g
       go (yes p) = next r p h
       go (no p) = let z : r ≡ number = omega arith in rw z here
 
-  step : (number last : ℕ) → number < last → (o : Option (ℕ → Row)) → matchingO (ruleAt book number) t ≡ o → (q : Option Fitting) → LowestIs book (suc number) last t q → LowestIs book number last t (orNext number o q)
+  step : (number last : ℕ) → number < last → (o : Option (ℕ → Row)) → matchingO (ruleAt book number) t ≡ o → (q : Option Fitting) → LowestIs book (suc number) last t q → LowestIs book number last t (orNext number 0 o q)
   unfolding LowestIs
   step number last l none e none h = λ r a b. from-next number last (no-fit number (ruleAt book number) refl e) r a h b
   step number last l none e (some f) h =

@@ -1,9 +1,9 @@
 pub mod Left
 pub mod Fit
 pub mod Constraint
+pub mod Front
 pub mod Match
 pub mod Dedukti
 pub mod Lowest
-pub mod Front
 pub mod Build
 pub mod told
