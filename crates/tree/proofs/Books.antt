@@ -1,4 +1,4 @@
--- The tree of the rows of rules finds the first rule that fits, with its bodies; the tree of an accepted book finds the lowest.
+-- What a row asks at the start of a path is that its rule fits: so the first row that fits there is the first whose left side matches.
 use mathlib.Core.Path.{_≡_, refl, sym, ap, _∙_, fun-ext}
 use mathlib.Core.Bool.{Bool, true, false, _&&_}
 use mathlib.Core.List.{List, [], _∷_}
@@ -6,31 +6,27 @@ use mathlib.Core.Option.{Option, none, some}
 use Prim.Native.Nat.{ℕ, zero, suc}
 use native.Mathlib.Omega.{arith}
 use lib.Dec.{ltb}
-use lib.ListN.{getD}
 use borrow.Author.Tests.{ltb-false}
-use Rattle.term.specs.declared.check.Checked.the-variants.{Good}
 use Rattle.term.specs.Word.{pick}
 use Rattle.term.specs.Row.{Row, nothing, node, width, Formed}
-use Rattle.term.specs.Check.{IsTerm}
 use Rattle.term.proofs.Laws.{and-left, width-nothing, width-node}
-use Rattle.book.specs.Book.{Rule, checkBook, ruleAt}
+use Rattle.book.specs.Book.{Rule, ruleAt}
 use Rattle.fit.specs.Left.{Left, wide}
 use Rattle.fit.specs.Fit.{matching}
 use Rattle.fit.specs.Match.{leftIn}
 use Rattle.fit.specs.Constraint.{tree, shapeFits, Occurrence, occurrences, firstOf, constraints, allHold}
-use Rattle.fit.specs.Lowest.{Fitting, orNext, matchingO, lowest}
-use Rattle.fit.proofs.Laws.{GoodRule, isMatch, fits-constraints, accepted-good, under-root, at-child, tree-first, Each, first-each, constraints-name, occurs-first, beyond-first, FirstBody, matched-first, lowest-zero, lowest-more, LowestIs, book-lowest}
+use Rattle.fit.specs.Lowest.{Fitting, orNext}
+use Rattle.fit.proofs.Laws.{GoodRule, isMatch, fits-constraints, under-root, at-child, tree-first, Each, first-each, constraints-name, occurs-first, beyond-first, FirstBody, matched-first}
 use Rattle.tree.specs.Path.{childrenFrom, root, start}
 use Rattle.tree.specs.Rows.{RuleRow, subsUnder, constraintsLeft}
-use Rattle.tree.specs.Compile.{compile, rowThen, bookRows, bookTree}
+use Rattle.tree.specs.Compile.{rowThen, bookRows}
 use Rattle.tree.specs.Find.{rootPart, bodyOr}
 use Rattle.tree.proofs.Subs.{from-start, subs-root, good-full}
 use Rattle.tree.proofs.Parts.{depthUnder, depthAt, partsAt, DepthIs, depths-are}
 use Rattle.tree.proofs.Fits.{openFits, children-open}
 use Rattle.tree.proofs.Holds.{allIn, ListIs, lists-are, unstruck-none, body-there, all-is}
 use Rattle.tree.proofs.Covers.{start-covered}
-use Rattle.tree.proofs.Firsts.{Live, AllLive, rowFits, firstBody, rowBodies, orFirst, fitting, firstFit}
-use Rattle.tree.proofs.Finds.{find, find-first}
+use Rattle.tree.proofs.Firsts.{Live, rowFits, firstBody, rowBodies, orFirst, fitting, firstFit}
 
 -- each row is a good rule
 abbrev pub AllGood : List RuleRow → Type 0
@@ -40,7 +36,7 @@ AllGood (row ∷ rows) = GoodRule (row .vars) (row .left) × AllGood rows
 -- the first row whose left side matches the term
 unfoldable pub firstMatch : Row → List RuleRow → Option Fitting
 firstMatch t [] = none
-firstMatch t (row ∷ rows) = orNext (row .number) (matching (row .left) t) (firstMatch t rows)
+firstMatch t (row ∷ rows) = orNext (row .number) (row .aside) (matching (row .left) t) (firstMatch t rows)
 
 -- ---- a path begins
 pub live-start : (row : RuleRow) → GoodRule (row .vars) (row .left) → Live (root ∷ []) row
@@ -51,10 +47,6 @@ live-start row g =
       lists = constraints-name ListIs (row .left) (lists-are (row .vars) [] 0 0 (row .left) (g .good));
       there = λ x h. occurs-first x [] 0 0 (row .left) (g .all x h);
     }
-
-all-live : (rows : List RuleRow) → AllGood rows → AllLive (root ∷ []) rows
-all-live [] a = tt
-all-live (row ∷ rows) a = (live-start row (a .0), all-live rows (a .1))
 
 empty : (f : Row) → width f ≡ 0 → f ≡ nothing
 empty nothing e = refl
@@ -118,21 +110,16 @@ module _ (t : Row) (w : Formed t) (one : width t ≡ 1) where
       (sym (fits-constraints (row .vars) (row .left) t (g .good) (g .one ∙ sym one) w) ∙ ap isMatch e)
 
   row-step : (row : RuleRow) → GoodRule (row .vars) (row .left) → (o : Option (ℕ → Row)) → matching (row .left) t ≡ o → (p q : Option Fitting) → p ≡ q
-      → orFirst (isMatch o) (fitting t row) p ≡ orNext (row .number) o q
+      → orFirst (isMatch o) (fitting t row) p ≡ orNext (row .number) (row .aside) o q
   row-step row g none e p q r = r
   row-step row g (some b) e p q r =
-      ap (λ (c : ℕ → Row). some (record { number = row .number; bodies = c })) (fun-ext (body-at-start row g (depths-start row g (match-shape row g b e)) b e))
+      ap (λ (c : ℕ → Row). some (record { number = row .number; aside = row .aside; bodies = c })) (fun-ext (body-at-start row g (depths-start row g (match-shape row g b e)) b e))
 
   pub first-match : (rows : List RuleRow) → AllGood rows → firstFit t start rows ≡ firstMatch t rows
   unfolding firstFit firstMatch
   first-match [] a = refl
   first-match (row ∷ rows) a =
       rw (start-fits row (a .0)) (row-step row (a .0) (matching (row .left) t) refl (firstFit t start rows) (firstMatch t rows) (first-match rows (a .1)))
-
-  -- THE THEOREM, for a list of rules: the tree finds the first that fits, with its bodies
-  pub tree-first-match : (rows : List RuleRow) → AllGood rows → find (compile start rows) (rootPart t) ≡ firstMatch t rows
-  tree-first-match rows a =
-      ap (find (compile start rows)) (sym (root-parts t one)) ∙ find-first t w start rows (all-live rows a) ∙ first-match rows a
 
 -- ---- the rows of a book
 good-then : (book : List ℕ) (number : ℕ) (rows : List RuleRow) → ((n : ℕ) (rule : Rule) → ruleAt book n ≡ some rule → GoodRule (rule .vars) (leftIn rule)) → AllGood rows
@@ -144,30 +131,3 @@ pub good-rows : (book : List ℕ) → ((n : ℕ) (rule : Rule) → ruleAt book n
 unfolding bookRows
 good-rows book g zero number = tt
 good-rows book g (suc more) number = good-then book number (bookRows book (suc number) more) g (good-rows book g more (suc number)) (ruleAt book number) refl
-
-match-then : (number : ℕ) (rows : List RuleRow) (t : Row) (o : Option Rule) → firstMatch t (rowThen number o rows) ≡ orNext number (matchingO o t) (firstMatch t rows)
-unfolding firstMatch
-match-then number rows t none = refl
-match-then number rows t (some rule) = refl
-
-none-matches : (t : Row) → firstMatch t [] ≡ none
-unfolding firstMatch
-none-matches t = refl
-
-pub match-lowest : (book : List ℕ) (t : Row) (more number : ℕ) → firstMatch t (bookRows book number more) ≡ lowest book number more t
-unfolding bookRows
-match-lowest book t zero number = none-matches t ∙ sym (lowest-zero book number t)
-match-lowest book t (suc more) number =
-    match-then number (bookRows book (suc number) more) t (ruleAt book number)
-    ∙ ap (orNext number (matchingO (ruleAt book number) t)) (match-lowest book t more (suc number))
-    ∙ sym (lowest-more book number more t)
-
--- THE THEOREM, for an accepted book: its tree finds the lowest rule that fits, with its bodies
-pub book-tree : (book : List ℕ) → checkBook book ≡ Good → (t : Row) → Formed t → width t ≡ 1 → find (bookTree book) (rootPart t) ≡ lowest book 0 (getD book 0 0) t
-unfolding bookTree
-book-tree book accepted t w one =
-    tree-first-match t w one (bookRows book 0 (getD book 0 0)) (good-rows book (accepted-good book accepted) (getD book 0 0) 0) ∙ match-lowest book t (getD book 0 0) 0
-
--- and so the lowest rule for which some bodies, of all there could be, turn its left side into the term; none only where there is none
-pub book-tree-lowest : (book : List ℕ) → checkBook book ≡ Good → (ws : List ℕ) (i : IsTerm ws) → LowestIs book 0 (getD book 0 0) (i .tree) (find (bookTree book) (rootPart (i .tree)))
-book-tree-lowest book accepted ws i = rw (book-tree book accepted (i .tree) (i .formed) (i .one)) (book-lowest book accepted ws i)

@@ -3,7 +3,7 @@ use mathlib.Core.Path.{_≡_, refl}
 use mathlib.Core.List.{List, [], _∷_}
 use mathlib.Core.Option.{Option, none, some}
 use Prim.Native.Nat.{ℕ, _+_}
-use lib.ListN.{length, take}
+use lib.ListN.{length}
 use Rattle.term.specs.Word.{word, kind, count, ident, headOf, headWith}
 use Rattle.term.specs.Row.{words, read, firsts, others}
 use Rattle.term.specs.Renumber.{position, idBody, inside, renumberHead, renumber, namedHead, named, closed, toBody}
@@ -15,20 +15,15 @@ use Rattle.fit.specs.Left.{leftOf}
 use Rattle.fit.specs.Constraint.{childrenOf, isHead, occurrences, closeds, firstOf, sames, constraints, bodyHere}
 use Rattle.fit.specs.Match.{treeOf, leftIn}
 use Rattle.fit.specs.Lowest.{Fitting}
-use Rattle.fit.specs.Front.{covers}
+use Rattle.fit.specs.Front.{rootArguments, covers}
 use Rattle.tree.specs.Path.{placeNumbered, numberIn, childrenFrom, marked, enter}
 use Rattle.tree.specs.Rows.{sub, below, subsUnder, subAt, headAt, lowestOpen, isIn, among, sameConstraint, has, unstruck, constraintsLeft, wordsOf, wordsLeft, size}
-use Rattle.tree.specs.Compile.{without, heads, caseRows, defaultRows, entering, holding, rowsWithout, testOf, variablesFrom, leafOf, casesOf, nodeOf, step, compileBy, compile, bookRows, bookTree}
+use Rattle.tree.specs.Compile.{without, heads, caseRows, defaultRows, entering, holding, rowsWithout, testOf, variablesFrom, leafOf, casesOf, nodeOf, step, compileBy, compile, bookRows}
 use Rattle.tree.specs.Find.{rootPart, partOf, markedPart, childParts, insideOf, enterPart, bodyFor, leafBody}
 use Rattle.tree.proofs.Finds.{find, findCase}
 use Rattle.tree.specs.Tree.{Tree, Fail, Leaf, Switch, Closed, Same, Cases, NoCase, Case}
-use Rattle.tree.specs.Root.{withoutId, rootSymbols, smallest, countsFrom, headsOf, rootHeads, rootCaseRows, rootCases, rootTree, bookRootTree}
+use Rattle.tree.specs.Root.{withoutId, rootSymbols, smallest, countsFrom, headsOf, rootHeads, rootCaseRows, rootCases, rootTree, bookTree}
 use Rattle.tree.specs.Layout.{variableWords, caseCount, long, longCases, caseHeads, layout, layoutCases}
-
--- book A's tree has 51 words, and begins as document 01 says
-words-A : (length (layout 0 (bookTree bookA)) ≡ 51) × (take 8 (layout 0 (bookTree bookA)) ≡ 2 ∷ 0 ∷ 2 ∷ 131074 ∷ 8 ∷ 65539 ∷ 20 ∷ 50 ∷ [])
-unfolding s l v m bookA word kind count ident headOf headWith read firsts others position inside sameWords idsOf ruleOf nthRule ruleAt leftOf occurrences closeds firstOf sames constraints treeOf leftIn placeNumbered numberIn childrenFrom marked enter sub below subsUnder subAt headAt lowestOpen isIn among sameConstraint has unstruck constraintsLeft wordsOf wordsLeft size without heads caseRows defaultRows entering holding rowsWithout testOf variablesFrom leafOf casesOf nodeOf step compileBy compile bookRows bookTree variableWords caseCount long longCases caseHeads layout layoutCases
-words-A = (refl, refl)
 
 -- what the tree of a book finds in a term: the rule and its body for the variable 0, in words
 abbrev ruleAndBody : Option Fitting → Option (ℕ × List ℕ)
@@ -49,22 +44,10 @@ bookC = 3
 exchanged :
     (finds bookC (s 3 1 ∷ l ∷ s 4 1 ∷ s 7 0 ∷ []) ≡ some (1, s 7 0 ∷ []))
     × (finds bookC (s 3 1 ∷ l ∷ v 2 ∷ []) ≡ some (2, v 1 ∷ []))
-unfolding s l v m bookC word kind count ident headOf headWith words read firsts others position inside idBody renumberHead renumber namedHead named closed toBody sameWords idsOf ruleOf nthRule ruleAt leftOf childrenOf isHead bodyHere occurrences closeds firstOf sames constraints treeOf leftIn placeNumbered numberIn childrenFrom marked enter sub below subsUnder subAt headAt lowestOpen isIn among sameConstraint has unstruck constraintsLeft wordsOf wordsLeft size without heads caseRows defaultRows entering holding rowsWithout testOf variablesFrom leafOf casesOf nodeOf step compileBy compile bookRows bookTree partOf markedPart childParts insideOf enterPart bodyFor leafBody find findCase
+unfolding s l v m bookC word kind count ident headOf headWith words read firsts others position inside idBody renumberHead renumber namedHead named closed toBody sameWords idsOf ruleOf nthRule ruleAt leftOf childrenOf isHead bodyHere occurrences closeds firstOf sames constraints treeOf leftIn placeNumbered numberIn childrenFrom marked enter sub below subsUnder subAt headAt lowestOpen isIn among sameConstraint has unstruck constraintsLeft wordsOf wordsLeft size without heads caseRows defaultRows entering holding rowsWithout testOf variablesFrom leafOf casesOf nodeOf step compileBy compile bookRows partOf markedPart childParts insideOf enterPart bodyFor leafBody find findCase covers rootArguments withoutId rootSymbols smallest countsFrom headsOf rootHeads rootCaseRows rootCases rootTree bookTree
 exchanged = (refl, refl)
 
--- how many nodes of a tree are a Leaf, and how many a Fail
-unfoldable mutual
-  leavesIn : Tree → ℕ
-  leavesIn Fail = 0
-  leavesIn (Leaf leaf) = 1
-  leavesIn (Switch n cs default) = leavesCases cs + leavesIn default
-  leavesIn (Closed n ys ifYes ifNo) = leavesIn ifYes + leavesIn ifNo
-  leavesIn (Same n m ys zs ifYes ifNo) = leavesIn ifYes + leavesIn ifNo
-
-  leavesCases : Cases → ℕ
-  leavesCases NoCase = 0
-  leavesCases (Case h x cs) = leavesIn x + leavesCases cs
-
+-- how many nodes of a tree are Fail
 unfoldable mutual
   failsIn : Tree → ℕ
   failsIn Fail = 1
@@ -77,7 +60,7 @@ unfoldable mutual
   failsCases NoCase = 0
   failsCases (Case h x cs) = failsIn x + failsCases cs
 
--- the tree with the root Switch of its own: with one more word in each Leaf these are 725 words, 45 of them Fail, as document 02 says
-root-words-A : (length (layout 0 (bookRootTree bookA)) + leavesIn (bookRootTree bookA) ≡ 725) × (failsIn (bookRootTree bookA) ≡ 45)
-unfolding s l v m bookA word kind count ident headOf headWith read firsts others position inside sameWords idsOf ruleOf nthRule ruleAt leftOf occurrences closeds firstOf sames constraints treeOf leftIn placeNumbered numberIn childrenFrom marked enter sub below subsUnder subAt headAt lowestOpen isIn among sameConstraint has unstruck constraintsLeft wordsOf wordsLeft size without heads caseRows defaultRows entering holding rowsWithout testOf variablesFrom leafOf casesOf nodeOf step compileBy compile bookRows bookTree variableWords caseCount long longCases caseHeads layout layoutCases covers withoutId rootSymbols smallest countsFrom headsOf rootHeads rootCaseRows rootCases rootTree bookRootTree leavesIn leavesCases failsIn failsCases
-root-words-A = (refl, refl)
+-- book A's tree has 725 words, 45 of them Fail, as document 02 says
+words-A : (length (layout 0 (bookTree bookA)) ≡ 725) × (failsIn (bookTree bookA) ≡ 45)
+unfolding s l v m bookA word kind count ident headOf headWith read firsts others position inside sameWords idsOf ruleOf nthRule ruleAt leftOf occurrences closeds firstOf sames constraints treeOf leftIn placeNumbered numberIn childrenFrom marked enter sub below subsUnder subAt headAt lowestOpen isIn among sameConstraint has unstruck constraintsLeft wordsOf wordsLeft size without heads caseRows defaultRows entering holding rowsWithout testOf variablesFrom leafOf casesOf nodeOf step compileBy compile bookRows variableWords caseCount long longCases caseHeads layout layoutCases covers rootArguments withoutId rootSymbols smallest countsFrom headsOf rootHeads rootCaseRows rootCases rootTree bookTree failsIn failsCases
+words-A = (refl, refl)

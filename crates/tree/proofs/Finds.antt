@@ -150,7 +150,7 @@ module _ (t : Row) (w : Formed t) (make : OnPath → List RuleRow → Tree) wher
       → find (leafOf (path .uncovered) row) (partsAt t (path .uncovered)) ≡ firstFit t path (row ∷ rows)
   unfolding find leafOf
   leaf-right path row rows l e q =
-      ap (λ (b : ℕ → Row). some (record { number = row .number; bodies = b })) (leaf-bodies t (path .uncovered) row l (row-within path row l e))
+      ap (λ (b : ℕ → Row). some (record { number = row .number; aside = row .aside; bodies = b })) (leaf-bodies t (path .uncovered) row l (row-within path row l e))
       ∙ sym (first-fits t path row rows e q)
 
   test-right : (path : OnPath) (rows : List RuleRow) (c : Constraint) → Names ListIs c → AllLive (path .uncovered) rows → (a b : Option Fitting)

@@ -53,7 +53,7 @@ orFirst true f o = some f
 orFirst false f o = o
 
 abbrev pub fitting : Row → RuleRow → Fitting
-fitting t row = record { number = row .number; bodies = rowBodies t row }
+fitting t row = record { number = row .number; aside = row .aside; bodies = rowBodies t row }
 
 unfoldable pub firstFit : Row → OnPath → List RuleRow → Option Fitting
 firstFit t path [] = none

@@ -2,21 +2,15 @@
 
 -- Each tree is one node over smaller trees.
 pub use Rattle.tree.proofs.Knot.{compile-is}
--- The tree of the rows of rules finds the first rule that fits, with its bodies; the tree of an accepted book finds the lowest.
-pub use Rattle.tree.proofs.Books.{AllGood, firstMatch, tree-first-match, book-tree, book-tree-lowest}
--- The tree of the rows of a book, with the root Switch of its own, finds the first rule that fits the term without the arguments set aside; where each count is
--- the root's own this is the first that fits the term.
-pub use Rattle.tree.proofs.Roots.{firstFront, Rooted, rooted, AllRooted, root-tree-first, OneCount, root-same, rooted-rows, book-root-tree}
--- With the arguments set aside counted this is the lowest rule of the book that fits the term without them.
-pub use Rattle.tree.proofs.RootLowest.{front-lowest, book-root-lowest, book-root-tree-lowest}
+-- The tree of an accepted book finds the lowest rule that fits the term without the arguments set aside, with their number and its bodies.
+pub use Rattle.tree.proofs.RootLowest.{book-tree, book-tree-lowest}
 -- A tree's layout: its length, and where its subtrees lie.
 pub use Rattle.tree.proofs.Layouts.{variables-none, variables-more, count-none, count-case, heads-none, heads-case, length-heads, length-layout, long-some, tree-words}
 pub use Rattle.tree.proofs.Layouts.{Lies, lies-inside, whole-lies, fail-lies, leaf-lies, CasesLie, SwitchLies, switch-lies, ClosedLies, closed-lies, SameLies, same-lies}
--- How a tree is walked in a term, and that the tree of an accepted book is walked soundly to the lowest rule that fits.
+-- How a tree is walked in a term, and that the tree of an accepted book is walked soundly to the lowest rule that fits the term without the arguments set aside.
 pub use Rattle.tree.proofs.Walks.{SoundVariable, AllSound, SoundPlace, Takes, takesFirst, takesLater, NoneTaken, noCases, otherCase, Walks, fails, ends, takes, defaults, closedYes, closedNo, sameYes, sameNo}
-pub use Rattle.tree.proofs.Ways.{RowFacts, AllFacts, tree-walks, CountsAre, varsOf, varsIn, FitsBook, book-walks}
--- With its own root Switch the tree of an accepted book is walked soundly to the first rule that fits the term without the arguments set aside.
-pub use Rattle.tree.proofs.RootWays.{root-walks, book-root-walks}
+pub use Rattle.tree.proofs.Ways.{CountsAre, varsOf, varsIn, FitsBook}
+pub use Rattle.tree.proofs.RootWays.{book-walks}
 -- Each uncovered place is another part of the term.
 pub use Rattle.tree.proofs.Totals.{length-total, total-entered, total-root}
 -- Uncovered places: the clauses of their definitions.
@@ -29,7 +23,7 @@ pub use Rattle.tree.proofs.RowClauses.{sub-end, sub-hole, sub-part, sub
 pub use Rattle.tree.proofs.RowClauses.{in-none, in-more, among-none, among-more, closed-both, same-both, closed-other, same-other, same-turned, none-held, has-more, has-join, unstruck-none, unstruck-more, unstruck-join, left-are}
 -- The tree of a list of rows, node by node, and the words of its nodes.
 pub use Rattle.tree.proofs.TreeClauses.{without-none, without-more, heads-no, heads-row, tables-none, tables-row, from-none, from-more, leaf-of, many-variables, entering-is, holding-is, cases-of-none, cases-of-more, count-cases-of}
-pub use Rattle.tree.proofs.TreeClauses.{compile-none, compile-leaf, compile-test, compile-switch, testFront, TestLaid, test-laid, rows-none, rows-more, book-tree-is}
+pub use Rattle.tree.proofs.TreeClauses.{compile-none, compile-leaf, compile-test, compile-switch, testFront, TestLaid, test-laid, rows-none, rows-more}
 pub use Rattle.tree.proofs.Layouts.{leaf-laid, fail-long, fail-layout, no-case, one-case, switch-long, switch-laid, length-cases}
 -- Sub-patterns at places, and heads that are in the table.
 pub use Rattle.tree.proofs.Subs.{subsFrom, from-end, from-hole, from-part, from-start, subs-root, sub-child, head-sub, head-headed, none-below, headed-below, root-unheaded, Headed, Full, full-at, good-full}

@@ -7,7 +7,7 @@ use lib.ListN.{length, drop, length-append, length-drop}
 use lib.Seq.{drop-drop, drop-append-seam}
 use Rattle.term.specs.Word.{Head, word}
 use Rattle.tree.specs.Tree.{LeafVariable, LeafNode, Tree, Fail, Leaf, Switch, Closed, Same, Cases, NoCase, Case}
-use Rattle.tree.specs.Compile.{bookTree}
+use Rattle.tree.specs.Root.{bookTree}
 use Rattle.tree.specs.Layout.{treeWords, variableWords, caseCount, long, longCases, caseHeads, layout, layoutCases}
 
 -- ---- clauses
@@ -35,7 +35,7 @@ pub heads-case : (at : ℕ) (h : Head) (x : Tree) (cs : Cases) → caseHeads at 
 unfolding caseHeads
 heads-case at h x cs = refl
 
-pub leaf-laid : (at : ℕ) (leaf : LeafNode) → layout at (Leaf leaf) ≡ 1 ∷ leaf .rule ∷ length (leaf .variables) ∷ variableWords (leaf .variables)
+pub leaf-laid : (at : ℕ) (leaf : LeafNode) → layout at (Leaf leaf) ≡ 1 ∷ leaf .rule ∷ length (leaf .variables) ∷ leaf .aside ∷ variableWords (leaf .variables)
 unfolding layout
 leaf-laid at leaf = refl
 
@@ -145,7 +145,7 @@ unfolding layout
 fail-lies table at l = l
 
 pub leaf-lies : (table : List ℕ) (at : ℕ) (leaf : LeafNode) → Lies table at (Leaf leaf)
-    → (after : List ℕ) × (drop at table ≡ 1 ∷ leaf .rule ∷ length (leaf .variables) ∷ (variableWords (leaf .variables) ++ after))
+    → (after : List ℕ) × (drop at table ≡ 1 ∷ leaf .rule ∷ length (leaf .variables) ∷ leaf .aside ∷ (variableWords (leaf .variables) ++ after))
 unfolding layout
 leaf-lies table at leaf l = l
 

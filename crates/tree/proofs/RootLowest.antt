@@ -9,17 +9,16 @@ use Rattle.term.specs.declared.check.Checked.the-variants.{Good}
 use Rattle.term.specs.Row.{Row, width, Formed}
 use Rattle.term.specs.Check.{IsTerm}
 use Rattle.book.specs.Book.{Rule, checkBook, ruleAt}
-use Rattle.fit.specs.Lowest.{Fitting, orNext}
-use Rattle.fit.specs.Front.{FrontFitting, orNextFront, matchingFrontO, asideO, lowestFront, counted}
+use Rattle.fit.specs.Lowest.{orNext, matchingFrontO, asideO, lowestFront}
 use Rattle.fit.proofs.Laws.{lowest-front-zero, lowest-front-more, LowestFrontIs, book-lowest-front}
 use Rattle.tree.specs.Rows.{RuleRow}
 use Rattle.tree.specs.Compile.{rowThen, bookRows}
 use Rattle.tree.specs.Find.{rootPart}
-use Rattle.tree.specs.Root.{bookRootTree}
+use Rattle.tree.specs.Root.{bookTree}
 use Rattle.tree.proofs.Finds.{find}
-use Rattle.tree.proofs.Roots.{firstFront, book-root-tree}
+use Rattle.tree.proofs.Roots.{firstFront, first-of-tree}
 
-front-then : (number : ℕ) (rows : List RuleRow) (t : Row) (o : Option Rule) → firstFront t (rowThen number o rows) ≡ orNext number (matchingFrontO o t) (firstFront t rows)
+front-then : (number : ℕ) (rows : List RuleRow) (t : Row) (o : Option Rule) → firstFront t (rowThen number o rows) ≡ orNext number (asideO o t) (matchingFrontO o t) (firstFront t rows)
 unfolding firstFront
 front-then number rows t none = refl
 front-then number rows t (some rule) = refl
@@ -28,25 +27,19 @@ none-fronts : (t : Row) → firstFront t [] ≡ none
 unfolding firstFront
 none-fronts t = refl
 
--- ---- the rule that is found is that of its number, so its arguments are those counted
-counted-here : (book : List ℕ) (t : Row) (number : ℕ) (m : Option (ℕ → Row)) (p : Option FrontFitting) (q : Option Fitting) → counted book t q ≡ p
-    → counted book t (orNext number m q) ≡ orNextFront number (asideO (ruleAt book number) t) m p
-counted-here book t number none p q r = r
-counted-here book t number (some b) p q r = refl
-
-pub front-lowest : (book : List ℕ) (t : Row) (more number : ℕ) → counted book t (firstFront t (bookRows book number more)) ≡ lowestFront book number more t
+pub front-lowest : (book : List ℕ) (t : Row) (more number : ℕ) → firstFront t (bookRows book number more) ≡ lowestFront book number more t
 unfolding bookRows
-front-lowest book t zero number = ap (counted book t) (none-fronts t) ∙ sym (lowest-front-zero book number t)
+front-lowest book t zero number = none-fronts t ∙ sym (lowest-front-zero book number t)
 front-lowest book t (suc more) number =
-    ap (counted book t) (front-then number (bookRows book (suc number) more) t (ruleAt book number))
-    ∙ counted-here book t number (matchingFrontO (ruleAt book number) t) (lowestFront book (suc number) more t) (firstFront t (bookRows book (suc number) more)) (front-lowest book t more (suc number))
+    front-then number (bookRows book (suc number) more) t (ruleAt book number)
+    ∙ ap (orNext number (asideO (ruleAt book number) t) (matchingFrontO (ruleAt book number) t)) (front-lowest book t more (suc number))
     ∙ sym (lowest-front-more book number more t)
 
--- THE THEOREM, for an accepted book: its tree finds the lowest rule that fits the term without the arguments set aside, with its bodies
-pub book-root-lowest : (book : List ℕ) → checkBook book ≡ Good → (t : Row) → Formed t → width t ≡ 1 → counted book t (find (bookRootTree book) (rootPart t)) ≡ lowestFront book 0 (getD book 0 0) t
-book-root-lowest book accepted t w one = ap (counted book t) (book-root-tree book accepted t w one) ∙ front-lowest book t (getD book 0 0) 0
+-- THE THEOREM, for an accepted book: its tree finds the lowest rule that fits the term without the arguments set aside, with their number and its bodies
+pub book-tree : (book : List ℕ) → checkBook book ≡ Good → (t : Row) → Formed t → width t ≡ 1 → find (bookTree book) (rootPart t) ≡ lowestFront book 0 (getD book 0 0) t
+book-tree book accepted t w one = first-of-tree book accepted t w one ∙ front-lowest book t (getD book 0 0) 0
 
 -- and so the lowest rule for which some bodies, of all there could be, turn its left side into that term; none only where there is none
-pub book-root-tree-lowest : (book : List ℕ) → checkBook book ≡ Good → (ws : List ℕ) (i : IsTerm ws)
-    → LowestFrontIs book 0 (getD book 0 0) (i .tree) (counted book (i .tree) (find (bookRootTree book) (rootPart (i .tree))))
-book-root-tree-lowest book accepted ws i = rw (book-root-lowest book accepted (i .tree) (i .formed) (i .one)) (book-lowest-front book accepted ws i)
+pub book-tree-lowest : (book : List ℕ) → checkBook book ≡ Good → (ws : List ℕ) (i : IsTerm ws)
+    → LowestFrontIs book 0 (getD book 0 0) (i .tree) (find (bookTree book) (rootPart (i .tree)))
+book-tree-lowest book accepted ws i = rw (book-tree book accepted (i .tree) (i .formed) (i .one)) (book-lowest-front book accepted ws i)

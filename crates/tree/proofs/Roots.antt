@@ -20,18 +20,18 @@ use Rattle.book.specs.Book.{Rule, checkBook, ruleAt}
 use Rattle.fit.specs.Left.{Left, end, hole, part, wide}
 use Rattle.fit.specs.Fit.{matching}
 use Rattle.fit.specs.Match.{leftIn}
-use Rattle.fit.specs.Front.{rootArguments, front, matchingFront, covers}
+use Rattle.fit.specs.Front.{rootArguments, front, aside, matchingFront, covers}
 use Rattle.fit.specs.Constraint.{Place, tree, under, treeAt, isHead, shapeFits, Occurrence, occurrences, firstOf, Constraint, closedAt, sameAt, constraints, bodyHere}
 use Rattle.fit.specs.Lowest.{Fitting, orNext}
 use Rattle.fit.proofs.Laws.{GoodRule, accepted-good, Each, each-join, first-each, Names, EachNames, constraints-name, good-part, wide-end, wide-hole, wide-part, shape-end, shape-hole, shape-part, under-root, at-child, tree-first, head-node, occurrences-end, occurrences-part}
-use Rattle.fit.proofs.Laws.{front-symbol, front-formed, width-front, matching-front, root-arguments, Through, through-argument, tree-front, under-front, treeAt-front, shape-front, through-each, SymbolRoot, accepted-root, uncovered-none, CoveredAs, covered-as, as-before}
+use Rattle.fit.proofs.Laws.{front-symbol, aside-node, front-formed, width-front, matching-front, root-arguments, Through, through-argument, tree-front, under-front, treeAt-front, shape-front, through-each, SymbolRoot, accepted-root, uncovered-none, CoveredAs, covered-as}
 use Rattle.tree.specs.told.Covered.{Waiting, Covered}
 use Rattle.tree.specs.Tree.{Switch}
 use Rattle.tree.specs.Path.{placeNumbered, childrenFrom, marked, enter, root, start}
 use Rattle.tree.specs.Rows.{RuleRow, sub, below, subsUnder, headHere, constraintsLeft}
 use Rattle.tree.specs.Compile.{entering, compile, rowThen, bookRows}
 use Rattle.tree.specs.Find.{rootPart, partOf, insideOf, enterPart, bodyOr}
-use Rattle.tree.specs.Root.{rootHeads, rootCaseRows, rootCases, rootTree, bookRootTree}
+use Rattle.tree.specs.Root.{rootHeads, settingAside, rootCaseRows, rootCases, rootTree, bookTree}
 use Rattle.tree.proofs.Basics.{same-head}
 use Rattle.tree.proofs.Clauses.{inside-of}
 use Rattle.tree.proofs.Subs.{subsFrom, from-hole, from-part, from-start}
@@ -47,7 +47,7 @@ use Rattle.tree.proofs.RootHeads.{Stands, no-root-head, HeadIn, RootsIn
 -- the first row whose left side fits the term without the arguments set aside
 unfoldable pub firstFront : Row → List RuleRow → Option Fitting
 firstFront t [] = none
-firstFront t (row ∷ rows) = orNext (row .number) (matchingFront (row .left) t) (firstFront t rows)
+firstFront t (row ∷ rows) = orNext (row .number) (aside (rootArguments (row .left)) t) (matchingFront (row .left) t) (firstFront t rows)
 
 -- ---- the root of a good rule
 -- a symbol with as many sub-patterns as it counts, and nothing beside it
@@ -213,31 +213,31 @@ module _ (j b a : ℕ) (ts rs : Row) (l : b ≤ a) (row : RuleRow) (kids : Left)
       (ap₂ _&&_ opens (sym (all-front b (node (symbol j a) ts rs) (same-depth j b a ts rs l) (constraints (row .left)) (constraints-name (λ o. Through b (o .place)) (row .left) named))))
 
   fitting-front : fitting (front b (node (symbol j a) ts rs)) row ≡ fitting (node (symbol j a) ts rs) row
-  fitting-front = ap (λ (c : ℕ → Row). record { number = row .number; bodies = c }) (bodies-front b (node (symbol j a) ts rs) (same-depth j b a ts rs l) row named)
+  fitting-front = ap (λ (c : ℕ → Row). record { number = row .number; aside = row .aside; bodies = c }) (bodies-front b (node (symbol j a) ts rs) (same-depth j b a ts rs l) row named)
 
   matching-is : matchingFront (row .left) (node (symbol j a) ts rs) ≡ matching (row .left) (front b (node (symbol j a) ts rs))
   matching-is =
       matching-front (row .left) (node (symbol j a) ts rs)
       ∙ ap (λ (m : ℕ). matching (row .left) (front m (node (symbol j a) ts rs))) (ap rootArguments e ∙ root-arguments (symbol j b) kids end ∙ count-symbol j b)
 
-first-only : (f : Row) → Formed f → width f ≡ 1 → (row : RuleRow) → GoodRule (row .vars) (row .left) → orFirst (rowFits f start row) (fitting f row) none ≡ orNext (row .number) (matching (row .left) f) none
+first-only : (f : Row) → Formed f → width f ≡ 1 → (row : RuleRow) → GoodRule (row .vars) (row .left) → orFirst (rowFits f start row) (fitting f row) none ≡ orNext (row .number) (row .aside) (matching (row .left) f) none
 unfolding firstFit firstMatch
 first-only f w one row g = first-match f w one (row ∷ []) (g, tt)
 
-then-any : (b : Bool) (f : Fitting) (number : ℕ) (o : Option (ℕ → Row)) → orFirst b f none ≡ orNext number o none → (p q : Option Fitting) → p ≡ q → orFirst b f p ≡ orNext number o q
-then-any true f number none e p q r = never (cc)
-then-any true f number (some c) e p q r = e
-then-any false f number none e p q r = r
-then-any false f number (some c) e p q r = never (cc)
+then-any : (b : Bool) (f : Fitting) (number n : ℕ) (o : Option (ℕ → Row)) → orFirst b f none ≡ orNext number n o none → (p q : Option Fitting) → p ≡ q → orFirst b f p ≡ orNext number n o q
+then-any true f number n none e p q r = never (cc)
+then-any true f number n (some c) e p q r = e
+then-any false f number n none e p q r = r
+then-any false f number n (some c) e p q r = never (cc)
 
 covered-step : (j b a : ℕ) (ts rs : Row) → b ≤ a → (row : RuleRow) (kids : Left) → row .left ≡ part (symbol j b) kids end → wide kids ≡ b → GoodRule (row .vars) (row .left)
     → Formed (node (symbol j a) ts rs) → width (node (symbol j a) ts rs) ≡ 1 → (p q : Option Fitting) → p ≡ q
-    → orFirst (rowFits (node (symbol j a) ts rs) (entering 0 (symbol j a) start) row) (fitting (node (symbol j a) ts rs) row) p ≡ orNext (row .number) (matchingFront (row .left) (node (symbol j a) ts rs)) q
+    → orFirst (rowFits (node (symbol j a) ts rs) (entering 0 (symbol j a) start) row) (fitting (node (symbol j a) ts rs) row) p ≡ orNext (row .number) (row .aside) (matchingFront (row .left) (node (symbol j a) ts rs)) q
 covered-step j b a ts rs l row kids e n g w one p q r =
     ap₂ (λ (c : Bool) (f : Fitting). orFirst c f p) (row-front j b a ts rs l row kids e n) (sym (fitting-front j b a ts rs l row kids e n))
-    ∙ then-any (rowFits (front b (node (symbol j a) ts rs)) start row) (fitting (front b (node (symbol j a) ts rs)) row) (row .number) (matching (row .left) (front b (node (symbol j a) ts rs)))
+    ∙ then-any (rowFits (front b (node (symbol j a) ts rs)) start row) (fitting (front b (node (symbol j a) ts rs)) row) (row .number) (row .aside) (matching (row .left) (front b (node (symbol j a) ts rs)))
     (first-only (front b (node (symbol j a) ts rs)) (front-formed b (node (symbol j a) ts rs) w) (width-front b (node (symbol j a) ts rs) ∙ one) row g) p q r
-    ∙ ap (λ (o : Option (ℕ → Row)). orNext (row .number) o q) (sym (matching-is j b a ts rs l row kids e n))
+    ∙ ap (λ (o : Option (ℕ → Row)). orNext (row .number) (row .aside) o q) (sym (matching-is j b a ts rs l row kids e n))
 
 -- ---- rows
 -- the root of each row's left side is a symbol
@@ -254,13 +254,13 @@ all-rooted (row ∷ rows) a = (inner (row .left) (a .0), all-rooted rows (a .1))
 
 row-covered : (g : Head) (ts rs : Row) → Formed (node g ts rs) → width (node g ts rs) ≡ 1 → (row : RuleRow) → GoodRule (row .vars) (row .left) → Rooted (row .left) → covers (row .left) g ≡ true
     → (p q : Option Fitting) → p ≡ q
-    → orFirst (rowFits (node g ts rs) (entering 0 g start) row) (fitting (node g ts rs) row) p ≡ orNext (row .number) (matchingFront (row .left) (node g ts rs)) q
+    → orFirst (rowFits (node g ts rs) (entering 0 g start) row) (fitting (node g ts rs) row) p ≡ orNext (row .number) (row .aside) (matchingFront (row .left) (node g ts rs)) q
 row-covered g ts rs w one row good r e p q same =
     let c = covered-as (r .ident) (r .arguments) (r .kids) end g (rw (r .is) at e) in
     inner g (c .arguments) (c .is) (c .few) w one
   where
     inner : (g : Head) (a : ℕ) → g ≡ symbol (r .ident) a → r .arguments ≤ a → Formed (node g ts rs) → width (node g ts rs) ≡ 1
-        → orFirst (rowFits (node g ts rs) (entering 0 g start) row) (fitting (node g ts rs) row) p ≡ orNext (row .number) (matchingFront (row .left) (node g ts rs)) q
+        → orFirst (rowFits (node g ts rs) (entering 0 g start) row) (fitting (node g ts rs) row) p ≡ orNext (row .number) (row .aside) (matchingFront (row .left) (node g ts rs)) q
     inner g a z l w one = rw z (covered-step (r .ident) (r .arguments) a ts rs l row (r .kids) (r .is) (r .full) good (rw z at w) (rw z at one) p q same)
 
 row-uncovered : (g : Head) (ts rs : Row) → Formed (node g ts rs) → (left : Left) → Rooted left → covers left g ≡ false → matchingFront left (node g ts rs) ≡ none
@@ -275,9 +275,11 @@ first-root g ts rs w one [] a s = refl
 first-root g ts rs w one (row ∷ rows) a s = go (covers (row .left) g) refl (first-root g ts rs w one rows (a .1) (s .1))
   where
     go : (c : Bool) → covers (row .left) g ≡ c → firstFit (node g ts rs) (entering 0 g start) (rootCaseRows g rows) ≡ firstFront (node g ts rs) rows
-        → firstFit (node g ts rs) (entering 0 g start) (pick c (row ∷ rootCaseRows g rows) (rootCaseRows g rows)) ≡ orNext (row .number) (matchingFront (row .left) (node g ts rs)) (firstFront (node g ts rs) rows)
-    go true e r = row-covered g ts rs w one row (a .0) (s .0) e (firstFit (node g ts rs) (entering 0 g start) (rootCaseRows g rows)) (firstFront (node g ts rs) rows) r
-    go false e r = r ∙ ap (λ (o : Option (ℕ → Row)). orNext (row .number) o (firstFront (node g ts rs) rows)) (sym (row-uncovered g ts rs w (row .left) (s .0) e))
+        → firstFit (node g ts rs) (entering 0 g start) (pick c (settingAside g row ∷ rootCaseRows g rows) (rootCaseRows g rows)) ≡ orNext (row .number) (aside (rootArguments (row .left)) (node g ts rs)) (matchingFront (row .left) (node g ts rs)) (firstFront (node g ts rs) rows)
+    go true e r =
+        rw (aside-node (rootArguments (row .left)) g ts rs)
+        (row-covered g ts rs w one (settingAside g row) (a .0) (s .0) e (firstFit (node g ts rs) (entering 0 g start) (rootCaseRows g rows)) (firstFront (node g ts rs) rows) r)
+    go false e r = r ∙ ap (λ (o : Option (ℕ → Row)). orNext (row .number) (aside (rootArguments (row .left)) (node g ts rs)) o (firstFront (node g ts rs) rows)) (sym (row-uncovered g ts rs w (row .left) (s .0) e))
 
 -- ---- the rows of a case are live on its path
 child-waiting : (a j : ℕ) → j < a → Waiting (j ∷ 0 ∷ []) (enter 0 a (root ∷ []))
@@ -303,8 +305,8 @@ live-root g [] a s = tt
 live-root g (row ∷ rows) a s = go (covers (row .left) g) refl (live-root g rows (a .1) (s .1))
   where
     go : (c : Bool) → covers (row .left) g ≡ c → AllLive (enter 0 (count g) (root ∷ [])) (rootCaseRows g rows)
-        → AllLive (enter 0 (count g) (root ∷ [])) (pick c (row ∷ rootCaseRows g rows) (rootCaseRows g rows))
-    go true e r = (live-covered g row (a .0) (s .0) e, r)
+        → AllLive (enter 0 (count g) (root ∷ [])) (pick c (settingAside g row ∷ rootCaseRows g rows) (rootCaseRows g rows))
+    go true e r = (live-covered g (settingAside g row) (a .0) (s .0) e, r)
     go false e r = r
 
 -- ---- the case of the term's root
@@ -381,26 +383,6 @@ root-tree-first nothing w one rows a s = absurd (omega (arith, width-nothing, on
 root-tree-first (node g ts rs) w one [] a s = refl
 root-tree-first (node g ts rs) w one (row ∷ rows) a s = root-switch g ts rs w one (row ∷ rows) a s
 
--- ---- as before
--- a row that covers the root has just as many arguments
-abbrev pub OneCount : Head → List RuleRow → Type 0
-OneCount g [] = Unit {0}
-OneCount g (row ∷ rows) = (covers (row .left) g ≡ true → headHere (row .left) ≡ some g) × OneCount g rows
-
-row-same : (g : Head) (ts rs : Row) → Formed (node g ts rs) → (left : Left) → Rooted left → (covers left g ≡ true → headHere left ≡ some g) → matchingFront left (node g ts rs) ≡ matching left (node g ts rs)
-row-same g ts rs w left r c = inner left (r .is) c
-  where
-    inner : (k : Left) → k ≡ part (symbol (r .ident) (r .arguments)) (r .kids) end → (covers k g ≡ true → headHere k ≡ some g) → matchingFront k (node g ts rs) ≡ matching k (node g ts rs)
-    inner k z c = rw z (as-before (r .ident) (r .arguments) (r .kids) end g ts rs (r .table) w (λ e. one-head ((rw z at c) e)))
-      where
-        one-head : {h : Head} → some h ≡ some g → h ≡ g
-        one-head q = cc
-
-pub root-same : (g : Head) (ts rs : Row) → Formed (node g ts rs) → (rows : List RuleRow) → AllRooted rows → OneCount g rows → firstFront (node g ts rs) rows ≡ firstMatch (node g ts rs) rows
-unfolding firstFront firstMatch
-root-same g ts rs w [] s c = refl
-root-same g ts rs w (row ∷ rows) s c = rw (row-same g ts rs w (row .left) (s .0) (c .0), root-same g ts rs w rows (s .1) (c .1))
-
 -- ---- the rows of an accepted book
 module _ (book : List ℕ) (accepted : checkBook book ≡ Good) where
   rooted-then : (number : ℕ) (rows : List RuleRow) → AllRooted rows → (o : Option Rule) → ruleAt book number ≡ o → AllRooted (rowThen number o rows)
@@ -412,6 +394,6 @@ module _ (book : List ℕ) (accepted : checkBook book ≡ Good) where
   rooted-rows zero number = tt
   rooted-rows (suc more) number = rooted-then number (bookRows book (suc number) more) (rooted-rows more (suc number)) (ruleAt book number) refl
 
-  pub book-root-tree : (t : Row) → Formed t → width t ≡ 1 → find (bookRootTree book) (rootPart t) ≡ firstFront t (bookRows book 0 (getD book 0 0))
-  unfolding bookRootTree
-  book-root-tree t w one = root-tree-first t w one (bookRows book 0 (getD book 0 0)) (good-rows book (accepted-good book accepted) (getD book 0 0) 0) (rooted-rows (getD book 0 0) 0)
+  pub first-of-tree : (t : Row) → Formed t → width t ≡ 1 → find (bookTree book) (rootPart t) ≡ firstFront t (bookRows book 0 (getD book 0 0))
+  unfolding bookTree
+  first-of-tree t w one = root-tree-first t w one (bookRows book 0 (getD book 0 0)) (good-rows book (accepted-good book accepted) (getD book 0 0) 0) (rooted-rows (getD book 0 0) 0)

@@ -12,7 +12,7 @@ use Rattle.fit.specs.Constraint.{Place, Occurrence, firstOf, Constraint, closed
 use Rattle.tree.specs.Tree.{Tree, Fail, Leaf, Switch, Cases, NoCase, Case}
 use Rattle.tree.specs.Path.{Uncovered, OnPath, placeNumbered, numberIn, enter, start}
 use Rattle.tree.specs.Rows.{RuleRow, headAt, lowestOpen, constraintsLeft}
-use Rattle.tree.specs.Compile.{without, addHead, heads, caseRows, defaultRows, entering, holding, rowsWithout, testOf, variableAt, variablesFrom, leafNodeOf, leafOf, casesOf, nodeOf, step, compile, rowThen, bookRows, bookTree}
+use Rattle.tree.specs.Compile.{without, addHead, heads, caseRows, defaultRows, entering, holding, rowsWithout, testOf, variableAt, variablesFrom, leafNodeOf, leafOf, casesOf, nodeOf, step, compile, rowThen, bookRows}
 use Rattle.tree.specs.Layout.{caseCount, long, layout}
 use Rattle.tree.proofs.Subs.{Full}
 use Rattle.tree.proofs.Finds.{InTables, tables-add}
@@ -157,7 +157,3 @@ rows-none book r m e = rw e
 pub rows-more : (book : List ℕ) (r more : ℕ) → bookRows book r (suc more) ≡ rowThen r (ruleAt book r) (bookRows book (suc r) more)
 unfolding bookRows
 rows-more book r more = refl
-
-pub book-tree-is : (book : List ℕ) → bookTree book ≡ compile start (bookRows book 0 (getD book 0 0))
-unfolding bookTree
-book-tree-is book = refl

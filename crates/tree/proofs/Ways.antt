@@ -6,7 +6,7 @@ use mathlib.Core.Option.{Option, none, some}
 use mathlib.Core.Logic.{_⊎_, inl, inr}
 use Prim.Native.Nat.{ℕ, zero, suc, _+_, _≤_, _<_}
 use native.Mathlib.Omega.{arith}
-use lib.ListN.{length, getD}
+use lib.ListN.{length}
 use Rattle.term.specs.declared.check.Checked.the-variants.{Good}
 use Rattle.term.specs.Word.{Head, pick, InTable}
 use Rattle.term.specs.Row.{Row, width, Formed}
@@ -18,14 +18,15 @@ use Rattle.book.proofs.Laws.{book-rule, book-rules, rule-number}
 use Rattle.fit.specs.Fit.{matching}
 use Rattle.fit.specs.Constraint.{Place, treeAt, isHead, Occurrence, occurrences, firstOf, Constraint, closedAt, sameAt, constraints}
 use Rattle.fit.specs.Match.{leftIn}
-use Rattle.fit.specs.Lowest.{Fitting, lowest}
+use Rattle.fit.specs.Front.{rootArguments}
+use Rattle.fit.specs.Lowest.{Fitting}
 use Rattle.fit.proofs.Laws.{GoodRule, isMatch, Each, first-each, IsThere, Names, EachNames, constraints-name, FirstBody, matched-first, accepted-good, occurs-first, OneVariable, constraints-one, first-variable, Counted, rule-counted}
 use Rattle.tree.specs.Tree.{countsOf, LeafNode, Tree, Switch, Case}
 use Rattle.tree.specs.told.Covered.{Within}
 use Rattle.tree.specs.Path.{Uncovered, OnPath, placeNumbered, numberIn, start}
 use Rattle.tree.specs.Rows.{RuleRow, headAt, lowestOpen, has, unstruck, constraintsLeft, size}
-use Rattle.tree.specs.Compile.{heads, inCase, caseRows, inDefault, defaultRows, entering, holding, rowsWithout, testOf, variableAt, variablesFrom, leafNodeOf, leafOf, casesOf, nodeOf, step, compile, rowThen, bookRows, bookTree}
-use Rattle.tree.specs.Find.{rootPart, partOf, enterPart, bodyFor}
+use Rattle.tree.specs.Compile.{heads, inCase, caseRows, inDefault, defaultRows, entering, holding, rowsWithout, testOf, variableAt, variablesFrom, leafNodeOf, leafOf, casesOf, nodeOf, step, compile, rowThen, bookRows}
+use Rattle.tree.specs.Find.{partOf, enterPart, bodyFor}
 use Rattle.tree.proofs.Parts.{depthAt, partsAt, part-of, depth-of, enter-parts, number-place, number-less, length-parts, body-number, DepthIs}
 use Rattle.tree.proofs.Fits.{openFits, enteredOf, OpenAt, open-at, variables-fit}
 use Rattle.tree.proofs.Holds.{holdsIn, allIn, ListIs, GoodListIs, good-lists, body-there}
@@ -34,7 +35,7 @@ use Rattle.tree.proofs.Knot.{compile-is}
 use Rattle.tree.proofs.Firsts.{Live, AllLive, rowFits, firstFit, live-entered, case-open, case-fits, first-case, NoHead, first-default, yes-row, first-yes, first-no}
 use Rattle.tree.proofs.Finds.{InTables, heads-tables, leaf-bodies, AllWithin, row-within, first-named, first-fits, entering-places}
 use Rattle.tree.proofs.TreeClauses.{many-variables}
-use Rattle.tree.proofs.Books.{AllGood, live-start, root-parts, start-open, depths-start, start-fits, firstMatch, first-match, match-lowest}
+use Rattle.tree.proofs.Books.{start-fits}
 use Rattle.tree.proofs.Walks.{SoundVariable, AllSound, SoundPlace, Takes, takesFirst, takesLater, NoneTaken, noCases, otherCase, Walks, fails, ends, takes, defaults, closedYes, closedNo, sameYes, sameNo}
 
 -- the two lists of an equality are as long
@@ -316,31 +317,10 @@ module _ (vars : ℕ → ℕ) (fits : LeafNode → Bool) (t : Row) (w : Formed t
       let m = some-match (matching (row .left) t) (sym (start-fits t w wide row g) ∙ e) in
       (m .0, λ x. matched-first (row .vars) (row .left) t (m .0) x (g .good) (g .one ∙ sym wide) w (m .1))
 
-  known-start : (row : RuleRow) → RowFacts vars fits row → Known start row
-  known-start row f =
-      record {
-        live = live-start row (f .good);
-        facts = f;
-        deep = λ e. depths-start t w wide row (f .good) (sym (start-open t (row .left) (f .good .one)) ∙ e);
-        bodies = start-bodies row (f .good);
-      }
-
-  abbrev pub AllFacts : List RuleRow → Type 0
-  AllFacts [] = Unit {0}
-  AllFacts (row ∷ rows) = RowFacts vars fits row × AllFacts rows
-
-  all-known : (rows : List RuleRow) → AllFacts rows → AllKnown start rows
-  all-known [] a = tt
-  all-known (row ∷ rows) a = (known-start row (a .0), all-known rows (a .1))
-
-  pub all-good : (rows : List RuleRow) → AllFacts rows → AllGood rows
-  all-good [] a = tt
-  all-good (row ∷ rows) a = (a .0 .good, all-good rows (a .1))
-
-  -- THE THEOREM: the tree of the rows of rules is walked soundly, to the first rule that fits
-  pub tree-walks : (rows : List RuleRow) → AllFacts rows → Walks vars fits (compile start rows) (rootPart t) (firstMatch t rows)
-  tree-walks rows a =
-      rw (← first-match t w wide rows (all-good rows a), ← root-parts t wide) (path-walks start rows (all-known rows a))
+  -- what each row has, however many arguments are set aside for it of so many at the root
+  abbrev pub AllFacts : ℕ → List RuleRow → Type 0
+  AllFacts a [] = Unit {0}
+  AllFacts a (row ∷ rows) = ((n : ℕ) → n + rootArguments (row .left) ≡ a → RowFacts vars fits (record { number = row .number; vars = row .vars; left = row .left; aside = n })) × AllFacts a rows
 
 -- ---- the rows of an accepted book
 -- the counts of the variables from x on
@@ -355,9 +335,10 @@ varsOf (some rule) = rule .vars
 abbrev pub varsIn : List ℕ → ℕ → ℕ
 varsIn book number = varsOf (ruleAt book number)
 
--- what is asked of a Leaf holds for the rules of the book
-abbrev pub FitsBook : List ℕ → (LeafNode → Bool) → Type 0
-FitsBook book fits = (leaf : LeafNode) (rule : Rule) → ruleAt book (leaf .rule) ≡ some rule → length (leaf .variables) ≡ rule .vars → CountsAre (rule .left) 0 (countsOf (leaf .variables)) → fits leaf ≡ true
+-- what is asked of a Leaf, at a root with so many arguments, holds for the rules of the book
+abbrev pub FitsBook : List ℕ → ℕ → (LeafNode → Bool) → Type 0
+FitsBook book a fits = (leaf : LeafNode) (rule : Rule) → ruleAt book (leaf .rule) ≡ some rule → length (leaf .variables) ≡ rule .vars → CountsAre (rule .left) 0 (countsOf (leaf .variables))
+    → leaf .aside + rootArguments (leftIn rule) ≡ a → fits leaf ≡ true
 
 one-length : (ws : List ℕ) (cs : List Constraint) → EachNames (Counted ws) cs → OneVariable cs → OneLength cs
 one-length ws [] a b = tt
@@ -376,9 +357,10 @@ counts-are ws us os a zero y h = tt
 counts-are ws us os a (suc more) y h =
     (first-count ws us os a y (firstOf y os) refl (h y (omega arith) (omega arith)), counts-are ws us os a more (suc y) (λ z p q. h z (omega arith) (omega arith)))
 
-module _ (book : List ℕ) (accepted : checkBook book ≡ Good) (fits : LeafNode → Bool) (ok : FitsBook book fits) where
-  rule-facts : (number : ℕ) (rule : Rule) → ruleAt book number ≡ some rule → RowFacts (varsIn book) fits (record { number = number; vars = rule .vars; left = leftIn rule })
-  rule-facts number rule e =
+module _ (book : List ℕ) (accepted : checkBook book ≡ Good) (a : ℕ) (fits : LeafNode → Bool) (ok : FitsBook book a fits) where
+  rule-facts : (number : ℕ) (rule : Rule) → ruleAt book number ≡ some rule → (n : ℕ) → n + rootArguments (leftIn rule) ≡ a
+      → RowFacts (varsIn book) fits (record { number = number; vars = rule .vars; left = leftIn rule; aside = n })
+  rule-facts number rule e n sum =
       let f = book-rule book number rule accepted e in
       let g = accepted-good book accepted number rule e in
       let c = rule-counted rule f in
@@ -387,23 +369,17 @@ module _ (book : List ℕ) (accepted : checkBook book ≡ Good) (fits : LeafNode
         low = omega (arith, rule-number book number rule e, book-rules book accepted .1);
         few = f .few;
         as-many = sym (ap varsOf e);
-        counts = λ us. ok (leafNodeOf us (record { number = number; vars = rule .vars; left = leftIn rule })) rule e (many-variables us (occurrences [] 0 0 (leftIn rule)) (rule .vars) 0)
-            (counts-are (rule .left) us (occurrences [] 0 0 (leftIn rule)) c (rule .vars) 0 (λ z p q. occurs-first z [] 0 0 (leftIn rule) (g .all z (omega arith))));
+        counts = λ us. ok (leafNodeOf us (record { number = number; vars = rule .vars; left = leftIn rule; aside = n })) rule e (many-variables us (occurrences [] 0 0 (leftIn rule)) (rule .vars) 0)
+            (counts-are (rule .left) us (occurrences [] 0 0 (leftIn rule)) c (rule .vars) 0 (λ z p q. occurs-first z [] 0 0 (leftIn rule) (g .all z (omega arith)))) sum;
         one = one-length (rule .left) (constraints (leftIn rule)) (constraints-name (Counted (rule .left)) (leftIn rule) c) (constraints-one (leftIn rule));
       }
 
   module _ (t : Row) (w : Formed t) (wide : width t ≡ 1) where
-    facts-then : (number : ℕ) (rows : List RuleRow) → AllFacts (varsIn book) fits t w wide rows → (o : Option Rule) → ruleAt book number ≡ o → AllFacts (varsIn book) fits t w wide (rowThen number o rows)
-    facts-then number rows a none e = a
-    facts-then number rows a (some rule) e = (rule-facts number rule e, a)
+    facts-then : (number : ℕ) (rows : List RuleRow) → AllFacts (varsIn book) fits t w wide a rows → (o : Option Rule) → ruleAt book number ≡ o → AllFacts (varsIn book) fits t w wide a (rowThen number o rows)
+    facts-then number rows s none e = s
+    facts-then number rows s (some rule) e = (rule-facts number rule e, s)
 
-    pub book-facts : (more number : ℕ) → AllFacts (varsIn book) fits t w wide (bookRows book number more)
+    pub book-facts : (more number : ℕ) → AllFacts (varsIn book) fits t w wide a (bookRows book number more)
     unfolding bookRows
     book-facts zero number = tt
     book-facts (suc more) number = facts-then number (bookRows book (suc number) more) (book-facts more (suc number)) (ruleAt book number) refl
-
-    -- THE THEOREM: the tree of an accepted book is walked soundly in every term, to the lowest rule that fits
-    pub book-walks : Walks (varsIn book) fits (bookTree book) (rootPart t) (lowest book 0 (getD book 0 0) t)
-    unfolding bookTree
-    book-walks =
-        rw (match-lowest book t (getD book 0 0) 0) at (tree-walks (varsIn book) fits t w wide (bookRows book 0 (getD book 0 0)) (book-facts (getD book 0 0) 0))

@@ -4,13 +4,12 @@ use mathlib.Core.Bool.{Bool, true, false}
 use mathlib.Core.List.{List, [], _∷_}
 use mathlib.Core.Option.{Option, none, some}
 use lib.Dec.{eqb}
-use lib.ListN.{getD}
 use Rattle.term.specs.Word.{Head, word, count, pick}
 use Rattle.book.specs.Book.{Rule, ruleAt}
 use Rattle.fit.specs.Constraint.{Place, Occurrence, occurrences, firstOf, Constraint, closedAt, sameAt}
 use Rattle.fit.specs.Match.{leftIn}
 use Rattle.tree.specs.Tree.{LeafVariable, LeafNode, Tree, Fail, Leaf, Switch, Closed, Same, Cases, NoCase, Case}
-use Rattle.tree.specs.Path.{Uncovered, OnPath, placeNumbered, numberIn, enter, start}
+use Rattle.tree.specs.Path.{Uncovered, OnPath, placeNumbered, numberIn, enter}
 use Rattle.tree.specs.Rows.{RuleRow, headAt, lowestOpen, has, constraintsLeft, size}
 
 -- ---- Switch
@@ -73,7 +72,7 @@ variablesFrom us os x zero = []
 variablesFrom us os x (suc more) = variableAt us (firstOf x os) ∷ variablesFrom us os (suc x) more
 
 abbrev pub leafNodeOf : List Uncovered → RuleRow → LeafNode
-leafNodeOf us row = record { rule = row .number; variables = variablesFrom us (occurrences [] 0 0 (row .left)) 0 (row .vars) }
+leafNodeOf us row = record { rule = row .number; aside = row .aside; variables = variablesFrom us (occurrences [] 0 0 (row .left)) 0 (row .vars) }
 
 unfoldable pub leafOf : List Uncovered → RuleRow → Tree
 leafOf us row = Leaf (leafNodeOf us row)
@@ -106,12 +105,8 @@ compile path rows = compileBy (suc (size path rows)) path rows
 -- ---- the rows of a book, from a number on
 abbrev pub rowThen : ℕ → Option Rule → List RuleRow → List RuleRow
 rowThen number none rows = rows
-rowThen number (some rule) rows = record { number = number; vars = rule .vars; left = leftIn rule } ∷ rows
+rowThen number (some rule) rows = record { number = number; vars = rule .vars; left = leftIn rule; aside = 0 } ∷ rows
 
 unfoldable pub bookRows : List ℕ → ℕ → ℕ → List RuleRow
 bookRows book number zero = []
 bookRows book number (suc more) = rowThen number (ruleAt book number) (bookRows book (suc number) more)
-
--- the first word of a book is its number of rules
-unfoldable pub bookTree : List ℕ → Tree
-bookTree book = compile start (bookRows book 0 (getD book 0 0))

@@ -4,7 +4,7 @@ use mathlib.Core.Bool.{Bool, true, false}
 use mathlib.Core.List.{List, [], _∷_, _++_}
 use mathlib.Core.Option.{Option, none, some}
 use lib.ListN.{length}
-use Rattle.term.specs.Word.{pick}
+use Rattle.term.specs.Word.{count, pick}
 use Rattle.term.specs.Row.{Row, nothing, node, words}
 use Rattle.term.specs.Renumber.{inside}
 use Rattle.fit.specs.Constraint.{childrenOf, bodyHere}
@@ -19,6 +19,11 @@ pub record PartAt : Type 0 where
 
 abbrev pub noPart : PartAt
 noPart = record { part = nothing; depth = 0; entered = true }
+
+-- how many arguments the word at the root of a term counts, whatever its kind
+unfoldable pub rootCount : Row → ℕ
+rootCount nothing = 0
+rootCount (node h kids rest) = count h
 
 -- the root is the place 0
 abbrev pub rootPart : Row → List PartAt
@@ -58,9 +63,9 @@ leafBody ps [] x = nothing
 leafBody ps (v ∷ vs) zero = bodyOr (bodyFor ps (v .at) (v .list))
 leafBody ps (v ∷ vs) (suc x) = leafBody ps vs x
 
--- what is found at a Leaf: its rule, with the bodies
+-- what is found at a Leaf: its rule, how many arguments are set aside, and the bodies
 abbrev pub leafFitting : List PartAt → LeafNode → Fitting
-leafFitting ps leaf = record { number = leaf .rule; bodies = leafBody ps (leaf .variables) }
+leafFitting ps leaf = record { number = leaf .rule; aside = leaf .aside; bodies = leafBody ps (leaf .variables) }
 
 -- the places, and the words below those that were not entered
 unfoldable pub total : List PartAt → ℕ

@@ -1,10 +1,11 @@
--- Document 01, "The tree": "Layout, addresses as word numbers, each node followed by its subtrees in order."
+-- Document 01, "The tree": "Layout, addresses as word numbers, each node followed by its subtrees in order." Document 02: "A Leaf holds, after n, how many arguments are
+-- set aside".
 use Prim.Native.Nat.{ℕ, suc, _+_, _*_}
 use mathlib.Core.List.{List, [], _∷_, _++_}
 use lib.ListN.{length}
 use Rattle.term.specs.Word.{word}
 use Rattle.tree.specs.Tree.{LeafVariable, Tree, Fail, Leaf, Switch, Closed, Same, Cases, NoCase, Case}
-use Rattle.tree.specs.Compile.{bookTree}
+use Rattle.tree.specs.Root.{bookTree}
 
 -- for each variable, in order, the place, k, the list
 unfoldable pub variableWords : List LeafVariable → List ℕ
@@ -19,7 +20,7 @@ caseCount (Case h x cs) = suc (caseCount cs)
 unfoldable mutual
   pub long : Tree → ℕ
   long Fail = 1
-  long (Leaf leaf) = 3 + length (variableWords (leaf .variables))
+  long (Leaf leaf) = 4 + length (variableWords (leaf .variables))
   long (Switch n cs default) = 4 + 2 * caseCount cs + longCases cs + long default
   long (Closed n ys ifYes ifNo) = 5 + length ys + long ifYes + long ifNo
   long (Same n m ys zs ifYes ifNo) = 6 + length ys + length zs + long ifYes + long ifNo
@@ -37,7 +38,7 @@ caseHeads at (Case h x cs) = word h ∷ at ∷ caseHeads (at + long x) cs
 unfoldable mutual
   pub layout : ℕ → Tree → List ℕ
   layout at Fail = 0 ∷ []
-  layout at (Leaf leaf) = 1 ∷ leaf .rule ∷ length (leaf .variables) ∷ variableWords (leaf .variables)
+  layout at (Leaf leaf) = 1 ∷ leaf .rule ∷ length (leaf .variables) ∷ leaf .aside ∷ variableWords (leaf .variables)
   layout at (Switch n cs default) =
       let next = at + 4 + 2 * caseCount cs in
       2 ∷ n ∷ caseCount cs ∷ (caseHeads next cs ++ ((next + longCases cs) ∷ (layoutCases next cs ++ layout (next + longCases cs) default)))

@@ -6,8 +6,8 @@ use mathlib.Core.List.{List, [], _∷_, _++_}
 use mathlib.Core.Option.{Option, none, some}
 use lib.Dec.{eqb, leb}
 use lib.ListN.{getD}
-use Rattle.term.specs.Word.{Head, symbol, abstraction, variable, pattern, pick}
-use Rattle.fit.specs.Front.{covers}
+use Rattle.term.specs.Word.{Head, symbol, abstraction, variable, pattern, count, pick}
+use Rattle.fit.specs.Front.{rootArguments, covers}
 use Rattle.tree.specs.Tree.{Tree, Fail, Switch, Cases, NoCase, Case}
 use Rattle.tree.specs.Path.{start}
 use Rattle.tree.specs.Rows.{RuleRow, headHere}
@@ -58,10 +58,13 @@ headsOf rows (i ∷ is) = countsFrom i (smallest i rows) (suc mostArguments - sm
 unfoldable pub rootHeads : List RuleRow → List Head
 rootHeads rows = headsOf rows (rootSymbols rows)
 
--- ---- "a row stands in each count it covers"
+-- ---- "a row stands in each count it covers", with the last a−b arguments set aside
+abbrev pub settingAside : Head → RuleRow → RuleRow
+settingAside h row = record { number = row .number; vars = row .vars; left = row .left; aside = count h - rootArguments (row .left) }
+
 unfoldable pub rootCaseRows : Head → List RuleRow → List RuleRow
 rootCaseRows h [] = []
-rootCaseRows h (row ∷ rows) = pick (covers (row .left) h) (row ∷ rootCaseRows h rows) (rootCaseRows h rows)
+rootCaseRows h (row ∷ rows) = pick (covers (row .left) h) (settingAside h row ∷ rootCaseRows h rows) (rootCaseRows h rows)
 
 unfoldable pub rootCases : List RuleRow → List Head → Cases
 rootCases rows [] = NoCase
@@ -72,5 +75,6 @@ unfoldable pub rootTree : List RuleRow → Tree
 rootTree [] = Fail
 rootTree (row ∷ rows) = Switch 0 (rootCases (row ∷ rows) (rootHeads (row ∷ rows))) Fail
 
-unfoldable pub bookRootTree : List ℕ → Tree
-bookRootTree book = rootTree (bookRows book 0 (getD book 0 0))
+-- the first word of a book is its number of rules
+unfoldable pub bookTree : List ℕ → Tree
+bookTree book = rootTree (bookRows book 0 (getD book 0 0))

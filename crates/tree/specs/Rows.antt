@@ -12,11 +12,12 @@ use Rattle.fit.specs.Left.{Left, end, hole, part}
 use Rattle.fit.specs.Constraint.{Place, Constraint, closedAt, sameAt, constraints}
 use Rattle.tree.specs.Path.{Uncovered, OnPath}
 
--- a rule: its number, how many variables it has, its left side
+-- a rule: its number, how many variables it has, its left side, and how many arguments are set aside for it (Root.antt)
 pub record RuleRow : Type 0 where
   pub number : ℕ
   pub vars : ℕ
   pub left : Left
+  pub aside : ℕ
 
 -- ---- sub-patterns
 -- the tree number i of a left side, as a left side of its own; end where there is none

@@ -14,9 +14,10 @@ unfoldable pub countsOf : List LeafVariable → List ℕ
 countsOf [] = []
 countsOf (v ∷ vs) = length (v .list) ∷ countsOf vs
 
--- what a Leaf holds: the rule's number, and its variables
+-- what a Leaf holds: the rule's number, how many arguments are set aside, and its variables
 pub record LeafNode : Type 0 where
   pub rule : ℕ
+  pub aside : ℕ
   pub variables : List LeafVariable
 
 -- places by their numbers. Switch: the place, the cases, the default. Closed: the place, the list, yes, no.
