@@ -12,7 +12,8 @@ use Rattle.book.specs.declared.accept.Accepted.the-variants.{Sound, Refused}
 use Rattle.book.specs.Book.{Rule, checkBook, ruleAt}
 use Rattle.book.specs.Accept.{accept}
 use Rattle.book.proofs.Laws.{accepted-good}
-use Rattle.fit.specs.Fit.{build, matching}
+use Rattle.fit.specs.Fit.{build}
+use Rattle.fit.specs.Front.{rootArguments, aside, matchingFront}
 use Rattle.fit.specs.Match.{treeOf, leftIn, refused, fittedO, matchRule}
 use Rattle.fit.specs.Build as building
 use Rattle.fit.specs.Build.{givenBodies, goodLengths, checkBodies, limited, buildLeft}
@@ -37,7 +38,7 @@ module _ (book : List ℕ) (number : ℕ) (ws : List ℕ) where
       unfolding matchRule
       match-wrong at e = rw (sound, found, e)
 
-      pub match-asked : check termLimits ws ≡ Good → matchRule book number ws ≡ fittedO (rule .vars) (matching (leftIn rule) (treeOf ws))
+      pub match-asked : check termLimits ws ≡ Good → matchRule book number ws ≡ fittedO (rule .vars) (aside (rootArguments (leftIn rule)) (treeOf ws)) (matchingFront (leftIn rule) (treeOf ws))
       unfolding matchRule
       match-asked e = rw (sound, found, e)
 

@@ -1,11 +1,10 @@
 -- The bodies of the variables, as the table knows them: whatever was found, what was written are its bodies so far, one after the other.
 use mathlib.Core.Path.{_≡_, ap}
-use mathlib.Core.Bool.{true}
+use mathlib.Core.Bool.{true, false}
 use mathlib.Core.List.{List, [], _++_}
 use Prim.Native.Nat.{ℕ, _+_, _-_, _≤_, _<_}
 use native.Mathlib.Omega.{arith}
 use lib.ListN.{length, length-set, take, set, replicate}
-use Rattle.term.specs.declared.answer.Answer.the-variants as answer
 use Rattle.term.specs.declared.renumber.Passed.the-variants as step
 use Rattle.fit.specs.Fit.{Found, bodyIn}
 use Rattle.fit.specs.told.Told.{present, Knows, FirstWritten, BodiesTold}
@@ -37,15 +36,15 @@ module _ (vars : ℕ) (left term table : List ℕ) (room : ℕ) (few : vars ≤ 
   module _ (bodies lengths : List ℕ) (at x : ℕ) (s : SoFar vars left term table room bodies lengths at x) where
     -- where the body of the next variable finds no room, all bodies find none
     pub bodies-short : x < vars → (out part : List ℕ) → length out ≡ room - at → FirstWritten left term table x out part step.Stuck
-        → (cleared zeros : List ℕ) → cleared ≡ replicate room 0 → zeros ≡ replicate 16 0 → BodiesTold vars left term table room cleared zeros answer.Short
+        → (cleared zeros : List ℕ) → cleared ≡ replicate room 0 → zeros ≡ replicate 16 0 → BodiesTold vars left term table room cleared zeros false
     unfolding BodiesTold FirstWritten
-    bodies-short h out part o w cleared zeros c z l k p =
-        many-short vars (bodyIn l) room few bodies lengths at x (s .told l k p) h (omega (arith, w l k (p x h), o)) cleared zeros c z .1
+    bodies-short h out part o w cleared zeros c z l k p n =
+        let q = many-short vars (bodyIn l) room few bodies lengths at x (s .told l k p) h (omega (arith, w l k (p x h), o)) cleared zeros c z n in (q .0, q .1 .1, q .1 .2)
 
     -- all bodies are written
-    pub bodies-done : vars ≤ x → BodiesTold vars left term table room bodies lengths answer.Done
+    pub bodies-done : vars ≤ x → BodiesTold vars left term table room bodies lengths true
     unfolding BodiesTold
-    bodies-done h l k p = many-done vars (bodyIn l) room few bodies lengths at x (s .told l k p) h .1
+    bodies-done h l k p n = let q = many-done vars (bodyIn l) room few bodies lengths at x (s .told l k p) h n in (q .0, q .1 .1, q .1 .2)
 
     -- the body of the next variable behind the others
     pub bodies-more : x < vars → (out part post : List ℕ) (n : ℕ) → length out ≡ room - at → length part ≡ length out → post ≡ []

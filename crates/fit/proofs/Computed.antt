@@ -16,13 +16,14 @@ use Rattle.book.specs.Accept.{accept}
 use Rattle.book.specs.Marked.{s, l, v, m, bookA, bookB}
 use Rattle.fit.specs.Left.{leftOf}
 use Rattle.fit.specs.Fit.{build, found, bodyIn, allSame, matching}
+use Rattle.fit.specs.Front.{rootArguments, front, aside, matchingFront}
 use Rattle.fit.specs.Match.{treeOf, leftIn, bodyList, Matched, refused, fitted, matchRule}
 use Rattle.fit.specs.Build.{startOf, wordsAt, givenBodies, allZero, goodLengths, checkBodies, largest, withinLimits, limited, buildLeft, buildAnswer, buildWords}
 
 -- the bodies' words, or none
 abbrev bodies : Matched → Option (List ℕ)
 bodies (refused a) = none
-bodies (fitted vars b) = some (bodyList b 0 vars)
+bodies (fitted vars n b) = some (bodyList b 0 vars)
 
 abbrev matched : List ℕ → ℕ → List ℕ → Option (List ℕ)
 matched book number ws = bodies (matchRule book number ws)
@@ -40,7 +41,7 @@ marked :
     × (matched bookB 0 (s 6 2 ∷ l ∷ v 1 ∷ l ∷ l ∷ v 1 ∷ []) ≡ none)
     × (matched bookB 0 (s 6 2 ∷ l ∷ v 2 ∷ l ∷ l ∷ v 3 ∷ []) ≡ some (v 2 ∷ []))
     × (matched bookB 0 (s 6 2 ∷ l ∷ v 2 ∷ l ∷ l ∷ v 2 ∷ []) ≡ none)
-unfolding s l v m bookA bookB word kind rank count ident headOf headWith words width ranks nesting read firsts others check scan settle mayStand position listed goodList idBody inside renumberHead renumber namedHead named closed toBody sameWords idsOf leftShape rootSymbol rightShape counted oneCount allOccur noOther goodLeft goodRight goodRule ruleOf judge checkBook accept nthRule ruleAt leftOf found bodyIn allSame matching treeOf leftIn bodyList matchRule
+unfolding s l v m bookA bookB word kind rank count ident headOf headWith words width ranks nesting read firsts others check scan settle mayStand position listed goodList idBody inside renumberHead renumber namedHead named closed toBody sameWords idsOf leftShape rootSymbol rightShape counted oneCount allOccur noOther goodLeft goodRight goodRule ruleOf judge checkBook accept nthRule ruleAt leftOf found bodyIn allSame matching rootArguments front aside matchingFront treeOf leftIn bodyList matchRule
 marked = (refl, refl, refl, refl, refl, refl, refl, refl, refl, refl, refl, refl)
 
 -- ---- building: document 01's numbers with their places, and what is left in a slice of so many words

@@ -1,5 +1,5 @@
 -- To match a front is to match a term, the one without the arguments set aside: so what is sound, complete and unique of matching is so of fronts.
-use mathlib.Core.Path.{_≡_, refl, sym, ap, _∙_}
+use mathlib.Core.Path.{_≡_, refl, sym, ap, ap₂, _∙_}
 use mathlib.Core.Bool.{Bool, true, false}
 use mathlib.Core.List.{List}
 use mathlib.Core.Option.{Option, none, some}
@@ -96,6 +96,14 @@ module _ (vars : ℕ) (left : Left) (rule : GoodRule vars left) (root : SymbolRo
           let p : build b 0 k ≡ node h (build b (inside h 0) (root .kids)) (build b 0 (root .rest)) = ap (build b 0) z ∙ build-part b 0 h (root .kids) (root .rest) in
           let n : rootArguments k ≡ root .arguments = ap rootArguments z ∙ root-arguments h (root .kids) (root .rest) ∙ count-symbol (root .ident) (root .arguments) in
           rw (p, n) (front-with (root .ident) (root .arguments) (build b (inside h 0) (root .kids)) (build b 0 (root .rest)) more (rw p at w))
+
+  -- and those arguments are as many as are set aside
+  pub built-aside : aside (rootArguments left) (withArguments (build b 0 left) more) ≡ width more
+  built-aside =
+      let h = symbol (root .ident) (root .arguments) in
+      let p : build b 0 left ≡ node h (build b (inside h 0) (root .kids)) (build b 0 (root .rest)) = ap (build b 0) (root .is) ∙ build-part b 0 h (root .kids) (root .rest) in
+      let n : rootArguments left ≡ root .arguments = ap rootArguments (root .is) ∙ root-arguments h (root .kids) (root .rest) ∙ count-symbol (root .ident) (root .arguments) in
+      ap₂ (λ (k : ℕ) (t : Row). aside k (withArguments t more)) n p ∙ many-with (root .ident) (root .arguments) (build b (inside h 0) (root .kids)) (build b 0 (root .rest)) more
 
   pub built-front : (c : ℕ → Row) × (matchingFront left (withArguments (build b 0 left) more) ≡ some c) × ((x : ℕ) → x < vars → c x ≡ b x)
   built-front =

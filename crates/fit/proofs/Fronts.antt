@@ -62,6 +62,15 @@ pub with-arguments-symbol : (i c : ℕ) (kids rest more : Row) → withArguments
 unfolding withArguments
 with-arguments-symbol i c kids rest more = refl
 
+-- no arguments more
+pub with-nothing : (t : Row) → withArguments t nothing ≡ t
+unfolding withArguments
+with-nothing nothing = refl
+with-nothing (node (symbol i c) kids rest) = let n : c + width nothing ≡ c = omega (arith, width-nothing) in rw (n, join-nothing kids)
+with-nothing (node abstraction kids rest) = refl
+with-nothing (node (variable i) kids rest) = refl
+with-nothing (node (pattern i c) kids rest) = refl
+
 pub matching-front : (left : Left) (t : Row) → matchingFront left t ≡ matching left (front (rootArguments left) t)
 unfolding matchingFront
 matching-front left t = refl

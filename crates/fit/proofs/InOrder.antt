@@ -96,18 +96,18 @@ module _ (vars : ℕ) (b : ℕ → Row) (room : ℕ) (few : vars ≤ 16) where
     over-room : x < vars → room - at < length (words (b x)) → room < length (bodyList b 0 vars)
     over-room h w = omega (arith, more-long, body-longer b 0 (suc x) vars (omega arith), w, s .there, s .within)
 
-    pub many-short : x < vars → room - at < length (words (b x)) → (cleared zeros : List ℕ) → cleared ≡ replicate room 0 → zeros ≡ replicate 16 0
-        → (leb (length (bodyList b 0 vars)) room ≡ false) × Leaves room (fitted vars b) answer.Short cleared zeros
+    pub many-short : x < vars → room - at < length (words (b x)) → (cleared zeros : List ℕ) → cleared ≡ replicate room 0 → zeros ≡ replicate 16 0 → (n : ℕ)
+        → (leb (length (bodyList b 0 vars)) room ≡ false) × Leaves room (fitted vars n b) answer.Short cleared zeros
     unfolding matchAnswer matchWords matchLengths
-    many-short h w cleared zeros c z =
+    many-short h w cleared zeros c z n =
         let o = over-room h w in
         let l = lt-leb (length (bodyList b 0 vars)) room o in
         (l, rw l (refl, c ∙ sym (padded-short room (bodyList b 0 vars) o), z))
 
     -- all bodies are written
-    pub many-done : vars ≤ x → (leb (length (bodyList b 0 vars)) room ≡ true) × Leaves room (fitted vars b) answer.Done bodies lengths
+    pub many-done : vars ≤ x → (n : ℕ) → (leb (length (bodyList b 0 vars)) room ≡ true) × Leaves room (fitted vars n b) answer.Done bodies lengths
     unfolding matchAnswer matchWords matchLengths
-    many-done h =
+    many-done h n =
         let e : x ≡ vars = omega (arith, s .below) in
         let room-left : length (bodyList b 0 x) ≤ room = omega (arith, s .there, s .within) in
         let fits : length (bodyList b 0 vars) ≤ room = rw e at room-left in

@@ -46,7 +46,7 @@ head-at at ws h kids after l e =
     let q : drop at ws ≡ word h ∷ (words kids ++ after) = e ∙ ap (λ (x : List ℕ). x ++ after) (words-tree h kids) in
     (cc, rw add-one (cc))
 
-found-inner : (d : ℕ) (h g : Head) (k : Left) (ts : Row) → word h ≡ word g → found d (part h k end) (node g ts nothing) ≡ found (inside h d) k ts
+pub found-inner : (d : ℕ) (h g : Head) (k : Left) (ts : Row) → word h ≡ word g → found d (part h k end) (node g ts nothing) ≡ found (inside h d) k ts
 unfolding found
 found-inner d h g k ts e = rw (eq-eqb (word h) (word g) e) (both-end (found (inside h d) k ts))
 

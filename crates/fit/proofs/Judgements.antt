@@ -17,8 +17,9 @@ use Rattle.term.specs.Check.{check, termLimits}
 use Rattle.term.proofs.Laws.{padded-short}
 use Rattle.book.specs.Book.{Rule, checkBook, ruleAt}
 use Rattle.book.proofs.Laws.{book-rule, good-accepted, bad-refused}
-use Rattle.fit.specs.Fit.{build, IsBody, matching}
-use Rattle.fit.specs.Match.{treeOf, leftIn, bodyList, lengthList, Matched, refused, fitted, fittedO, matchRule, matchAnswer, matchWords, matchLengths}
+use Rattle.fit.specs.Fit.{build, IsBody}
+use Rattle.fit.specs.Front.{rootArguments, aside, matchingFront}
+use Rattle.fit.specs.Match.{treeOf, leftIn, bodyList, lengthList, Matched, refused, fitted, fittedO, matchRule, matchAnswer, matchAside, matchWords, matchLengths}
 use Rattle.fit.specs.Build as building
 use Rattle.fit.specs.Build.{givenBodies, goodLengths, checkBodies, limited, buildLeft}
 use Rattle.fit.proofs.Accepted.{accepted-good}
@@ -38,19 +39,19 @@ module _ (book : List ℕ) (number : ℕ) (ws : List ℕ) where
     pub match-bad-term : (at : ℕ) → check termLimits ws ≡ Bad at → matchRule book number ws ≡ refused (BadTerm at)
     match-bad-term at e = match-wrong book number ws (good-accepted book good) rule found at e
 
-    pub match-one-rule : check termLimits ws ≡ Good → matchRule book number ws ≡ fittedO (rule .vars) (matching (leftIn rule) (treeOf ws))
+    pub match-one-rule : check termLimits ws ≡ Good → matchRule book number ws ≡ fittedO (rule .vars) (aside (rootArguments (leftIn rule)) (treeOf ws)) (matchingFront (leftIn rule) (treeOf ws))
     match-one-rule e = match-asked book number ws (good-accepted book good) rule found e
 
 -- a refusal leaves zeros
-pub match-zeros : (room : ℕ) (m : Matched) → 10 ≤ numberOf (matchAnswer room m) → (matchWords room m ≡ replicate room 0) × (matchLengths room m ≡ replicate 16 0)
-unfolding matchAnswer matchWords matchLengths
-match-zeros room (refused a) h = (refl, refl)
-match-zeros room (fitted vars b) h = go (leb (length (bodyList b 0 vars)) room) refl h
+pub match-zeros : (room : ℕ) (m : Matched) → 10 ≤ numberOf (matchAnswer room m) → (matchWords room m ≡ replicate room 0) × (matchLengths room m ≡ replicate 16 0) × (matchAside room m ≡ 0)
+unfolding matchAnswer matchAside matchWords matchLengths
+match-zeros room (refused a) h = (refl, refl, refl)
+match-zeros room (fitted vars n b) h = go (leb (length (bodyList b 0 vars)) room) refl h
   where
     go : (c : Bool) → leb (length (bodyList b 0 vars)) room ≡ c → 10 ≤ numberOf (pick c Done Short)
-        → (matchWords room (fitted vars b) ≡ replicate room 0) × (matchLengths room (fitted vars b) ≡ replicate 16 0)
+        → (matchWords room (fitted vars n b) ≡ replicate room 0) × (matchLengths room (fitted vars n b) ≡ replicate 16 0) × (matchAside room (fitted vars n b) ≡ 0)
     go true e k = absurd (omega (arith, k))
-    go false e k = (padded-short room (bodyList b 0 vars) (leb-false (length (bodyList b 0 vars)) room e), rw e)
+    go false e k = (padded-short room (bodyList b 0 vars) (leb-false (length (bodyList b 0 vars)) room e), rw e, rw e)
 
 -- ---- building a left side
 module _ (book : List ℕ) (number : ℕ) (bodies lengths : List ℕ) where

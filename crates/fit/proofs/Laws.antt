@@ -24,8 +24,8 @@ pub use Rattle.fit.proofs.Above.{left-of-nothing, left-of-symbol, left-
 -- Building is limited by what it says: formed, 64 levels and 4,096 words.
 pub use Rattle.fit.proofs.BuildAnswers.{within-is, over-is}
 -- Built then matched, and matched then built: over words, and over what the operations answer and leave.
-pub use Rattle.fit.proofs.RoundTrip.{built-then-matched, matched-then-built}
-pub use Rattle.fit.proofs.RoundAnswers.{build-match, match-build}
+pub use Rattle.fit.proofs.RoundTrip.{BackAgain, built-then-matched, built-with-matched, BuiltAgain, matched-then-built}
+pub use Rattle.fit.proofs.RoundAnswers.{MatchedAgain, build-match, build-with-match, BuildsFront, match-build}
 -- Bodies written one after the other, of whatever kind, and what is left of a refusal.
 pub use Rattle.fit.proofs.InOrder.{Leaves, refused-leaves, SoMany, many-start, many-short, many-done, many-more}
 -- Building and its limits: the clauses of their definitions.
@@ -33,7 +33,7 @@ pub use Rattle.fit.proofs.Clauses.{build-end, build-hole, build-part, l
 pub use Rattle.fit.proofs.Clauses.{LowestFits, lowest-none, lowest-some}
 pub use Rattle.fit.proofs.Limits.{within-limits}
 -- What is answered and left of a match, with room and without.
-pub use Rattle.fit.proofs.Fitted.{refused-answer, fitted-room, fitted-short, same-bodies}
+pub use Rattle.fit.proofs.Fitted.{refused-answer, refused-aside, fitted-room, fitted-short, fitted-aside, short-aside, same-bodies}
 -- Rows written one after the other from an offset on; where a tree stands in words.
 pub use Rattle.fit.proofs.Building.{row-none, row-first-over, row-then, row-full, row-node}
 pub use Rattle.fit.proofs.FitRow.{further, words-tree, TermFirst, term-first}
@@ -46,12 +46,12 @@ pub use Rattle.fit.proofs.Judgements.{match-bad-book, match-no-rule, ma
 -- The same by whether the book is accepted.
 pub use Rattle.fit.proofs.Asked.{sound-good, match-refused, match-unknown, match-wrong, match-asked, build-refused, build-unknown, build-wrong-lengths, build-wrong-body, build-asked}
 -- What comes back, as one record and part by part, both ways.
-pub use Rattle.fit.proofs.Outcomes.{match-came, came-match, BuildAnswered, build-came, came-build}
+pub use Rattle.fit.proofs.Outcomes.{match-came, came-match, came-aside, BuildAnswered, build-came, came-build}
 -- Document 001's matching rules hold exactly where some bodies fit; a part has a body just where it names nothing but its list.
 pub use Rattle.fit.proofs.DeduktiFits.{as-dedukti}
 pub use Rattle.fit.proofs.Free.{body-free, free-body}
 -- The front of a term: as before where the counts are equal, a term again, with the arguments set aside the term, and unchanged below the arguments that stay.
-pub use Rattle.fit.proofs.Fronts.{front-nothing, front-symbol, front-fewer, front-abstraction, front-variable, front-pattern, aside-node, aside-arguments-node, with-arguments-symbol, matching-front, root-arguments}
+pub use Rattle.fit.proofs.Fronts.{front-nothing, front-symbol, front-fewer, front-abstraction, front-variable, front-pattern, aside-node, aside-arguments-node, with-arguments-symbol, with-nothing, matching-front, root-arguments}
 pub use Rattle.fit.proofs.Fronts.{front-same, width-front, front-formed, front-within, front-body, front-and-aside, width-aside}
 pub use Rattle.fit.proofs.Fronts.{Through, through-argument, through-child, tree-front, under-front, treeAt-front, shape-front, through-each}
 -- The root of a left side, and that it does not fit where the term's root is not covered.
@@ -59,6 +59,6 @@ pub use Rattle.fit.proofs.Fronts.{SymbolRoot, accepted-root, covers-sym
 -- Sound, complete and unique for fronts; the bodies build the front, and with the arguments set aside the term.
 pub use Rattle.fit.proofs.FrontFits.{front-sound, front-complete, front-unique, front-none, none-front, front-built, built-and-aside}
 -- Arguments put at the end are set aside again, so what bodies build is matched with them, whatever arguments follow.
-pub use Rattle.fit.proofs.FrontFits.{front-with, aside-with, many-with, built-front}
+pub use Rattle.fit.proofs.FrontFits.{front-with, aside-with, many-with, built-aside, built-front}
 -- The lowest rule that fits the term without the arguments set aside; where each count is the root's own it is the lowest that fits the term.
 pub use Rattle.fit.proofs.FrontFits.{lowest-front-zero, lowest-front-more, NoFront, LowestFrontFits, LowestFrontIs, lowest-front-is, book-lowest-front, JustAsMany, found-covers, aside-before, match-before, lowest-before}

@@ -5,17 +5,22 @@ use Prim.Native.Nat.{ℕ}
 use Rattle.term.specs.declared.answer.Answer.{Answer}
 use Rattle.term.specs.Answer.{answered}
 use Rattle.term.proofs.Laws.{answered-same}
-use Rattle.fit.specs.Match.{matchRule, MatchRuleOutcome, matchRuleCame, matchRuleGives}
+use Rattle.fit.specs.Match.{matchRule, matchAside, MatchRuleOutcome, matchRuleCame, matchRuleGives}
 use Rattle.fit.specs.Build.{Built, buildLeft, buildAnswer, buildWords, BuildLeftOutcome, buildLeftCame, buildLeftGives}
 use Rattle.fit.proofs.InOrder.{Leaves}
 
 -- ---- matching one rule
-module _ (book : List ℕ) (number : ℕ) (term : List ℕ) (room : ℕ) (r : Answer) (bodies lengths : List ℕ) where
-  pub match-came : Leaves room (matchRule book number term) r bodies lengths → matchRuleCame (answered r) bodies lengths ≡ matchRuleGives book number term room
+module _ (book : List ℕ) (number : ℕ) (term : List ℕ) (room : ℕ) (r : Answer) (n : ℕ) (bodies lengths : List ℕ) where
+  pub match-came : Leaves room (matchRule book number term) r bodies lengths → n ≡ matchAside room (matchRule book number term)
+      → matchRuleCame (answered r) n bodies lengths ≡ matchRuleGives book number term room
   unfolding matchRuleGives
-  match-came e = rw (e .0, e .1, e .2)
+  match-came e z = rw (e .0, z, e .1, e .2)
 
-  pub came-match : matchRuleCame (answered r) bodies lengths ≡ matchRuleGives book number term room → Leaves room (matchRule book number term) r bodies lengths
+  pub came-aside : matchRuleCame (answered r) n bodies lengths ≡ matchRuleGives book number term room → n ≡ matchAside room (matchRule book number term)
+  unfolding matchRuleGives
+  came-aside e = ap (λ (o : MatchRuleOutcome). o .aside) e
+
+  pub came-match : matchRuleCame (answered r) n bodies lengths ≡ matchRuleGives book number term room → Leaves room (matchRule book number term) r bodies lengths
   unfolding matchRuleGives
   came-match e = (answered-same _ _ (ap (λ (o : MatchRuleOutcome). o .said) e), ap (λ (o : MatchRuleOutcome). o .bodies) e, ap (λ (o : MatchRuleOutcome). o .lengths) e)
 

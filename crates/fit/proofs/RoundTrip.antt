@@ -1,5 +1,5 @@
--- Demand 2 over words: building a left side and then matching gives the bodies back, and building from the bodies of a match gives the term again.
-use mathlib.Core.Path.{_≡_, refl, sym, ap, _∙_}
+-- Demand 2 over words: building a left side and then matching gives the bodies back, whatever arguments follow, and building from the bodies of a match gives the term without the arguments set aside.
+use mathlib.Core.Path.{_≡_, refl, sym, ap, ap₂, _∙_}
 use mathlib.Core.Bool.{Bool, true, false}
 use mathlib.Core.List.{List, _++_}
 use mathlib.Core.Option.{Option, none, some}
@@ -10,25 +10,28 @@ use Rattle.term.specs.declared.check.Checked.{Checked}
 use Rattle.term.specs.declared.check.Checked.the-variants.{Good, Bad}
 use Rattle.term.specs.declared.answer.Answer.{Answer}
 use Rattle.term.specs.declared.answer.Answer.the-variants.{Done, Over}
-use Rattle.term.specs.Row.{Row, width, words, ranks, nesting, Formed}
+use Rattle.term.specs.Row.{Row, nothing, width, words, ranks, nesting, Formed}
 use Rattle.term.specs.Word.{pick}
 use Rattle.term.specs.Check.{check, termLimits}
 use Rattle.term.specs.Renumber.{inside}
-use Rattle.term.proofs.Laws.{never, tree-good, good-tree}
+use Rattle.term.proofs.Laws.{never, tree-good, good-tree, width-nothing}
 use Rattle.book.specs.declared.accept.Accepted.{Accepted}
 use Rattle.book.specs.declared.accept.Accepted.the-variants.{Sound, Refused}
 use Rattle.book.specs.Book.{Rule, ruleAt}
 use Rattle.book.specs.Accept.{accept}
 use Rattle.book.proofs.Laws.{book-rule, refusal-number}
 use Rattle.fit.specs.Left.{Left, end, hole, part, GoodLeft}
-use Rattle.fit.specs.Fit.{build, IsBody, Fits, matching}
+use Rattle.fit.specs.Fit.{build, IsBody}
+use Rattle.fit.specs.Front.{rootArguments, front, aside, withArguments, matchingFront, FitsFront}
 use Rattle.fit.specs.Match.{treeOf, leftIn, bodyList, lengthList, Matched, refused, fitted, fittedO, withTerm, withRule, withBook, matchRule}
 use Rattle.fit.specs.Build as building
 use Rattle.fit.specs.Build.{wordsAt, givenBodies, goodLengths, checkBodies, Built, built, withinLimits, limited, withBodies, withLengths, buildLeft}
 use Rattle.fit.specs.told.BuildWalk.{Given}
-use Rattle.fit.proofs.Matching.{term-is-body, body-is-term, matched-built}
-use Rattle.fit.proofs.Words.{GoodRule, sound, complete}
+use Rattle.fit.proofs.Matching.{term-is-body, body-is-term}
+use Rattle.fit.proofs.Words.{GoodRule}
 use Rattle.fit.proofs.Accepted.{tree-of, accepted-good}
+use Rattle.fit.proofs.Fronts.{with-nothing, front-body, SymbolRoot, accepted-root}
+use Rattle.fit.proofs.FrontFits.{front-sound, front-built, built-aside, built-front}
 use Rattle.fit.proofs.Asked.{sound-good, match-asked, build-asked}
 use Rattle.fit.proofs.Lengths.{sum-lengths, given-good}
 use Rattle.fit.proofs.BuildAnswers.{given-body, term-within, one, few}
@@ -85,26 +88,27 @@ module _ (book : List ℕ) (number : ℕ) (bodies lengths : List ℕ) where
   built-is t e = rw e at built-o
 
 -- ---- what was asked where a term was matched, and that no refusal is Done
-pub record MatchedIs (book : List ℕ) (number : ℕ) (ws : List ℕ) (vars : ℕ) (b : ℕ → Row) : Type 0 where
+pub record MatchedIs (book : List ℕ) (number : ℕ) (ws : List ℕ) (vars n : ℕ) (b : ℕ → Row) : Type 0 where
   rule : Rule
   accepted : accept book ≡ Sound
   found : ruleAt book number ≡ some rule
   good : check termLimits ws ≡ Good
   vars-is : rule .vars ≡ vars
-  fits : matching (leftIn rule) (treeOf ws) ≡ some b
+  aside-is : aside (rootArguments (leftIn rule)) (treeOf ws) ≡ n
+  fits : matchingFront (leftIn rule) (treeOf ws) ≡ some b
 
 module _ (book : List ℕ) (number : ℕ) (ws : List ℕ) where
   abbrev pub MatchedO : Matched → Type 0
   MatchedO (refused a) = a ≡ Done → ⊥
-  MatchedO (fitted vars b) = MatchedIs book number ws vars b
+  MatchedO (fitted vars n b) = MatchedIs book number ws vars n b
 
   with-fit : (rule : Rule) → accept book ≡ Sound → ruleAt book number ≡ some rule → check termLimits ws ≡ Good
-      → (o : Option (ℕ → Row)) → matching (leftIn rule) (treeOf ws) ≡ o → MatchedO (fittedO (rule .vars) o)
+      → (o : Option (ℕ → Row)) → matchingFront (leftIn rule) (treeOf ws) ≡ o → MatchedO (fittedO (rule .vars) (aside (rootArguments (leftIn rule)) (treeOf ws)) o)
   with-fit rule a f g none e = λ z. never (cc)
-  with-fit rule a f g (some b) e = record { rule = rule; accepted = a; found = f; good = g; vars-is = refl; fits = e }
+  with-fit rule a f g (some b) e = record { rule = rule; accepted = a; found = f; good = g; vars-is = refl; aside-is = refl; fits = e }
 
   with-term : (rule : Rule) → accept book ≡ Sound → ruleAt book number ≡ some rule → (c : Checked) → check termLimits ws ≡ c → MatchedO (withTerm rule ws c)
-  with-term rule a f Good e = with-fit rule a f e (matching (leftIn rule) (treeOf ws)) refl
+  with-term rule a f Good e = with-fit rule a f e (matchingFront (leftIn rule) (treeOf ws)) refl
   with-term rule a f (Bad at) e = λ z. never (cc)
 
   term-rule : accept book ≡ Sound → (o : Option Rule) → ruleAt book number ≡ o → MatchedO (withRule number ws o)
@@ -119,8 +123,8 @@ module _ (book : List ℕ) (number : ℕ) (ws : List ℕ) where
   unfolding matchRule
   matched-o = term-book (accept book) refl
 
-  matched-is : (vars : ℕ) (b : ℕ → Row) → matchRule book number ws ≡ fitted vars b → MatchedIs book number ws vars b
-  matched-is vars b e = rw e at matched-o
+  matched-is : (vars n : ℕ) (b : ℕ → Row) → matchRule book number ws ≡ fitted vars n b → MatchedIs book number ws vars n b
+  matched-is vars n b e = rw e at matched-o
 
 -- ---- built, then matched
 -- a body's words are one term, and the tree that they are is the body
@@ -129,6 +133,11 @@ body-good b i = tree-good termLimits (words b) (body-is-term b i)
 
 pub body-tree : (b : Row) → IsBody b → treeOf (words b) ≡ b
 body-tree b i = tree-of termLimits (words b) (body-is-term b i)
+
+-- a term is matched with the bodies of these words and lengths, and so many arguments are set aside
+abbrev pub BackAgain : List ℕ → ℕ → List ℕ → List ℕ → Row → ℕ → Type 0
+BackAgain book number bodies lengths t n =
+    (vars : ℕ) × (b : ℕ → Row) × (matchRule book number (words t) ≡ fitted vars n b) × (bodyList b 0 vars ≡ bodies) × (lengthList b 0 vars ++ replicate (16 - vars) 0 ≡ lengths)
 
 module _ (book : List ℕ) (number : ℕ) (bodies lengths : List ℕ) (t : Row) (i : BuiltIs book number bodies lengths t) where
   given : Given (i .rule .vars) bodies lengths
@@ -152,24 +161,51 @@ module _ (book : List ℕ) (number : ℕ) (bodies lengths : List ℕ) (t : Row) 
       let j = good-tree termLimits (omega arith) (wordsAt bodies lengths x) (given .terms x h) in
       ap words (tree-of termLimits (wordsAt bodies lengths x) j) ∙ sym (j .same)
 
-  back : length lengths ≡ 16
-      → (vars : ℕ) × (b : ℕ → Row) × (matchRule book number (words t) ≡ fitted vars b) × (bodyList b 0 vars ≡ bodies) × (lengthList b 0 vars ++ replicate (16 - vars) 0 ≡ lengths)
-  back l =
-      let z = sum-lengths (i .rule .vars) bodies lengths (i .lengths-good) .1 in
-      let f : Fits (i .rule .vars) (leftIn (i .rule)) (words t) (givenBodies bodies lengths) = record { bodies = λ x h. given-body bodies lengths x (given .terms x h); same = ap words (i .is) } in
-      let m = complete (i .rule .vars) (leftIn (i .rule)) (accepted-good book (sound-good book (i .accepted)) number (i .rule) (i .found)) t (one-term .within) (one-term .one) (givenBodies bodies lengths) f in
-      let same : (x : ℕ) → x < i .rule .vars → words (m .0 x) ≡ wordsAt bodies lengths x = λ x h. ap words (m .2 x h) ∙ given-words x h in (
-        i .rule .vars,
-        m .0,
-        match-asked book number (words t) (i .accepted) (i .rule) (i .found) (body-good t one-term) ∙ rw (body-tree t one-term, m .1),
-        bodies-back (i .rule .vars) bodies lengths given (m .0) same z,
-        lengths-back (i .rule .vars) bodies lengths given (m .0) same z l,
-      )
+  good-rule : GoodRule (i .rule .vars) (leftIn (i .rule))
+  good-rule = accepted-good book (sound-good book (i .accepted)) number (i .rule) (i .found)
+
+  root : SymbolRoot (leftIn (i .rule))
+  root = accepted-root book (sound-good book (i .accepted)) number (i .rule) (i .found)
+
+  same-term : IsBody (build (givenBodies bodies lengths) 0 (leftIn (i .rule)))
+  same-term = rw (i .is) one-term
+
+  module _ (more : Row) (whole : IsBody (withArguments t more)) where
+    asked : matchRule book number (words (withArguments t more))
+        ≡ fittedO (i .rule .vars) (aside (rootArguments (leftIn (i .rule))) (withArguments t more)) (matchingFront (leftIn (i .rule)) (withArguments t more))
+    asked =
+        match-asked book number (words (withArguments t more)) (i .accepted) (i .rule) (i .found) (body-good (withArguments t more) whole)
+        ∙ ap (λ (r : Row). fittedO (i .rule .vars) (aside (rootArguments (leftIn (i .rule))) r) (matchingFront (leftIn (i .rule)) r)) (body-tree (withArguments t more) whole)
+
+    many : aside (rootArguments (leftIn (i .rule))) (withArguments t more) ≡ width more
+    many =
+        ap (λ (r : Row). aside (rootArguments (leftIn (i .rule))) (withArguments r more)) (sym (i .is))
+        ∙ built-aside (i .rule .vars) (leftIn (i .rule)) good-rule root (givenBodies bodies lengths) (λ x h. given-body bodies lengths x (given .terms x h)) same-term more
+
+    back : length lengths ≡ 16 → BackAgain book number bodies lengths (withArguments t more) (width more)
+    back l =
+        let z = sum-lengths (i .rule .vars) bodies lengths (i .lengths-good) .1 in
+        let m = built-front (i .rule .vars) (leftIn (i .rule)) good-rule root (givenBodies bodies lengths) (λ x h. given-body bodies lengths x (given .terms x h)) same-term more in
+        let e : matchingFront (leftIn (i .rule)) (withArguments t more) ≡ some (m .0) = ap (λ (r : Row). matchingFront (leftIn (i .rule)) (withArguments r more)) (sym (i .is)) ∙ m .1 in
+        let same : (x : ℕ) → x < i .rule .vars → words (m .0 x) ≡ wordsAt bodies lengths x = λ x h. ap words (m .2 x h) ∙ given-words x h in (
+          i .rule .vars,
+          m .0,
+          asked ∙ ap₂ (fittedO (i .rule .vars)) many e,
+          bodies-back (i .rule .vars) bodies lengths given (m .0) same z,
+          lengths-back (i .rule .vars) bodies lengths given (m .0) same z l,
+        )
+
+-- what is built, with any arguments at its end with which it is a term, is matched with the bodies, and these arguments are set aside
+pub built-with-matched : (book : List ℕ) (number : ℕ) (bodies lengths : List ℕ) → length lengths ≡ 16 → (t : Row) → buildLeft book number bodies lengths ≡ built t
+    → (more : Row) → IsBody (withArguments t more) → BackAgain book number bodies lengths (withArguments t more) (width more)
+built-with-matched book number bodies lengths l t e more w = back book number bodies lengths t (built-is book number bodies lengths t e) more w l
 
 -- "Building a left side from given bodies, when the result is within the limits and there is room, and then matching it gives those bodies back"
 pub built-then-matched : (book : List ℕ) (number : ℕ) (bodies lengths : List ℕ) → length lengths ≡ 16 → (t : Row) → buildLeft book number bodies lengths ≡ built t
-    → (vars : ℕ) × (b : ℕ → Row) × (matchRule book number (words t) ≡ fitted vars b) × (bodyList b 0 vars ≡ bodies) × (lengthList b 0 vars ++ replicate (16 - vars) 0 ≡ lengths)
-built-then-matched book number bodies lengths l t e = back book number bodies lengths t (built-is book number bodies lengths t e) l
+    → BackAgain book number bodies lengths t 0
+built-then-matched book number bodies lengths l t e =
+    let w : IsBody (withArguments t nothing) = rw (with-nothing t) (one-term book number bodies lengths t (built-is book number bodies lengths t e)) in
+    rw (with-nothing t, width-nothing) at (built-with-matched book number bodies lengths l t e nothing w)
 
 -- ---- matched, then built
 -- what is built depends on the bodies of its variables only
@@ -179,7 +215,7 @@ build-agree vars f g e d end q = refl
 build-agree vars f g e d (hole x ys rest) q = rw (e x (q .0), build-agree vars f g e d rest (q .2))
 build-agree vars f g e d (part h kids rest) q = rw (build-agree vars f g e (inside h d) kids (q .3), build-agree vars f g e d rest (q .4))
 
-module _ (book : List ℕ) (number : ℕ) (ws : List ℕ) (vars : ℕ) (b : ℕ → Row) (i : MatchedIs book number ws vars b) where
+module _ (book : List ℕ) (number : ℕ) (ws : List ℕ) (vars n : ℕ) (b : ℕ → Row) (i : MatchedIs book number ws vars n b) where
   -- the term that the words are
   record Term (t : Row) : Type 0 where
     same : words t ≡ ws
@@ -197,8 +233,15 @@ module _ (book : List ℕ) (number : ℕ) (ws : List ℕ) (vars : ℕ) (b : ℕ 
   few-vars : i .rule .vars ≤ 16
   few-vars = book-rule book number (i .rule) (sound-good book (i .accepted)) (i .found) .few
 
+  -- the term without the arguments set aside
+  abbrev the-front : Row
+  the-front = front (rootArguments (leftIn (i .rule))) (treeOf ws)
+
+  fits-front : FitsFront (i .rule .vars) (leftIn (i .rule)) (treeOf ws) b
+  fits-front = front-sound (i .rule .vars) (leftIn (i .rule)) rule-good (treeOf ws) (term .body) b (i .fits)
+
   bodies-are : (x : ℕ) → x < i .rule .vars → IsBody (b x)
-  bodies-are = sound (i .rule .vars) (leftIn (i .rule)) rule-good (treeOf ws) (term .body .within) b (i .fits) .bodies
+  bodies-are = fits-front .bodies
 
   abbrev bodies : List ℕ
   bodies = bodyList b 0 (i .rule .vars)
@@ -210,23 +253,29 @@ module _ (book : List ℕ) (number : ℕ) (ws : List ℕ) (vars : ℕ) (b : ℕ 
   unfolding givenBodies
   given-are x h = ap treeOf (list-words (i .rule .vars) b few-vars x h) ∙ body-tree (b x) (bodies-are x h)
 
-  builds : build (givenBodies bodies lengths) 0 (leftIn (i .rule)) ≡ treeOf ws
+  builds : build (givenBodies bodies lengths) 0 (leftIn (i .rule)) ≡ the-front
   builds =
       build-agree (i .rule .vars) (givenBodies bodies lengths) b given-are 0 (leftIn (i .rule)) (rule-good .good)
-      ∙ matched-built (i .rule .vars) (leftIn (i .rule)) (rule-good .good) (treeOf ws) (term .body .within) b (i .fits)
+      ∙ front-built (i .rule .vars) (leftIn (i .rule)) rule-good (treeOf ws) (term .body) b fits-front
 
-  rebuilt : buildLeft book number bodies lengths ≡ built (treeOf ws)
+  rebuilt : buildLeft book number bodies lengths ≡ built the-front
   unfolding limited
   rebuilt =
       let l = list-lengths (i .rule .vars) b few-vars in
       let c = list-bodies (i .rule .vars) b few-vars (λ x h. body-good (b x) (bodies-are x h)) in
-      let g : withinLimits (treeOf ws) ≡ true = within-limits (treeOf ws) (term .body .within .formed) (term .body .within .low) (term .body .within .short) in
+      let w = front-body (rootArguments (leftIn (i .rule))) (treeOf ws) (term .body) .within in
+      let g : withinLimits the-front ≡ true = within-limits the-front (w .formed) (w .low) (w .short) in
       build-asked book number bodies lengths (i .accepted) (i .rule) (i .found) l c ∙ rw (builds, g)
 
--- "building from the bodies of a match, given room, gives the term again"
-pub matched-then-built : (book : List ℕ) (number : ℕ) (ws : List ℕ) (vars : ℕ) (b : ℕ → Row) → matchRule book number ws ≡ fitted vars b
-    → (t : Row) × (buildLeft book number (bodyList b 0 vars) (lengthList b 0 vars ++ replicate (16 - vars) 0) ≡ built t) × (words t ≡ ws)
-matched-then-built book number ws vars b e = shown (matched-is book number ws vars b e)
+-- "building from the bodies of a match, given room, gives" "the term without the arguments set aside", which the answer counts
+pub record BuiltAgain (book : List ℕ) (number : ℕ) (ws : List ℕ) (vars n : ℕ) (b : ℕ → Row) : Type 0 where
+  pub rule : Rule
+  pub found : ruleAt book number ≡ some rule
+  pub counts : n ≡ aside (rootArguments (leftIn rule)) (treeOf ws)
+  pub is : buildLeft book number (bodyList b 0 vars) (lengthList b 0 vars ++ replicate (16 - vars) 0) ≡ built (front (rootArguments (leftIn rule)) (treeOf ws))
+
+pub matched-then-built : (book : List ℕ) (number : ℕ) (ws : List ℕ) (vars n : ℕ) (b : ℕ → Row) → matchRule book number ws ≡ fitted vars n b → BuiltAgain book number ws vars n b
+matched-then-built book number ws vars n b e = shown (matched-is book number ws vars n b e)
   where
-    shown : MatchedIs book number ws vars b → (t : Row) × (buildLeft book number (bodyList b 0 vars) (lengthList b 0 vars ++ replicate (16 - vars) 0) ≡ built t) × (words t ≡ ws)
-    shown i = (treeOf ws, rw (i .vars-is) at (rebuilt book number ws vars b i), term book number ws vars b i .same)
+    shown : MatchedIs book number ws vars n b → BuiltAgain book number ws vars n b
+    shown i = record { rule = i .rule; found = i .found; counts = sym (i .aside-is); is = ap (λ (v : ℕ). buildLeft book number (bodyList b 0 v) (lengthList b 0 v ++ replicate (16 - v) 0)) (sym (i .vars-is)) ∙ rebuilt book number ws vars n b i }

@@ -1,4 +1,5 @@
--- What matching one rule answers and leaves: document 01's numbers 12, 16, 11, 1, 13, in this order.
+-- What matching one rule answers and leaves: document 01's numbers 12, 16, 11, 1, 13, in this order. Document 02: the rule is for a front part of the
+-- arguments (Front.antt), and the answer counts those set aside.
 use Prim.Native.Nat.{ℕ, zero, suc, _+_, _-_}
 use mathlib.Core.Path.{_≡_}
 use mathlib.Core.Bool.{Bool, true, false, _&&_}
@@ -20,7 +21,7 @@ use Rattle.book.specs.declared.accept.Accepted.the-variants.{Sound, Refused}
 use Rattle.book.specs.Book.{Rule, ruleAt}
 use Rattle.book.specs.Accept.{accept}
 use Rattle.fit.specs.Left.{Left, leftOf}
-use Rattle.fit.specs.Fit.{matching}
+use Rattle.fit.specs.Front.{rootArguments, aside, matchingFront}
 
 abbrev pub rowOr : Got → Row
 rowOr none = nothing
@@ -51,14 +52,14 @@ pub record GivesBodies (room vars : ℕ) (b : ℕ → Row) (bodies lengths : Lis
 -- ---- what is asked, in order: the book, the rule, the term, the fit, the room
 pub data Matched : Type 0 where
   refused : Answer → Matched
-  fitted : ℕ → (ℕ → Row) → Matched
+  fitted : (vars aside : ℕ) → (ℕ → Row) → Matched
 
-abbrev pub fittedO : ℕ → Option (ℕ → Row) → Matched
-fittedO vars none = refused NoFit
-fittedO vars (some b) = fitted vars b
+abbrev pub fittedO : (vars aside : ℕ) → Option (ℕ → Row) → Matched
+fittedO vars n none = refused NoFit
+fittedO vars n (some b) = fitted vars n b
 
 abbrev pub withTerm : Rule → List ℕ → Checked → Matched
-withTerm rule ws Good = fittedO (rule .vars) (matching (leftIn rule) (treeOf ws))
+withTerm rule ws Good = fittedO (rule .vars) (aside (rootArguments (leftIn rule)) (treeOf ws)) (matchingFront (leftIn rule) (treeOf ws))
 withTerm rule ws (Bad at) = refused (BadTerm at)
 
 abbrev pub withRule : ℕ → List ℕ → Option Rule → Matched
@@ -74,27 +75,33 @@ matchRule book number ws = withBook book number ws (accept book)
 
 unfoldable pub matchAnswer : ℕ → Matched → Answer
 matchAnswer room (refused a) = a
-matchAnswer room (fitted vars b) = pick (leb (length (bodyList b 0 vars)) room) Done Short
+matchAnswer room (fitted vars n b) = pick (leb (length (bodyList b 0 vars)) room) Done Short
+
+-- how many arguments are set aside; 0 where no rule fits, or where its bodies have no room
+unfoldable pub matchAside : ℕ → Matched → ℕ
+matchAside room (refused a) = 0
+matchAside room (fitted vars n b) = pick (leb (length (bodyList b 0 vars)) room) n 0
 
 unfoldable pub matchWords : ℕ → Matched → List ℕ
 matchWords room (refused a) = replicate room 0
-matchWords room (fitted vars b) = padded room (bodyList b 0 vars)
+matchWords room (fitted vars n b) = padded room (bodyList b 0 vars)
 
 unfoldable pub matchLengths : ℕ → Matched → List ℕ
 matchLengths room (refused a) = replicate 16 0
-matchLengths room (fitted vars b) = pick (leb (length (bodyList b 0 vars)) room) (lengthList b 0 vars ++ replicate (16 - vars) 0) (replicate 16 0)
+matchLengths room (fitted vars n b) = pick (leb (length (bodyList b 0 vars)) room) (lengthList b 0 vars ++ replicate (16 - vars) 0) (replicate 16 0)
 
 -- ---- all that comes back
 pub record MatchRuleOutcome : Type 0 where
   pub said : Answered
+  pub aside : ℕ
   pub bodies : List ℕ
   pub lengths : List ℕ
 
-abbrev pub matchRuleCame : Answered → List ℕ → List ℕ → MatchRuleOutcome
-matchRuleCame said bodies lengths = record { said = said; bodies = bodies; lengths = lengths }
+abbrev pub matchRuleCame : Answered → ℕ → List ℕ → List ℕ → MatchRuleOutcome
+matchRuleCame said aside bodies lengths = record { said = said; aside = aside; bodies = bodies; lengths = lengths }
 
 abbrev pub matchedCame : ℕ → Matched → MatchRuleOutcome
-matchedCame room m = matchRuleCame (answered (matchAnswer room m)) (matchWords room m) (matchLengths room m)
+matchedCame room m = matchRuleCame (answered (matchAnswer room m)) (matchAside room m) (matchWords room m) (matchLengths room m)
 
 unfoldable pub matchRuleGives : (book : List ℕ) (number : ℕ) (term : List ℕ) (room : ℕ) → MatchRuleOutcome
 matchRuleGives book number term room = matchedCame room (matchRule book number term)

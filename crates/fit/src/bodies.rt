@@ -4,7 +4,6 @@ ghost use Prim.Native.Nat.{_≤_, _<_};
 ghost use lib.ListN.{length, replicate};
 ghost use Rattle.fit.specs.told.Told.{FirstWritten, BodiesTold};
 use crate::fitting::first_of;
-use term::answer::Answer;
 use term::lent::clear;
 use term::part::Written;
 use term::part::write_body;
@@ -30,7 +29,7 @@ fn write_first(left: &[u32], term: &[u32], table: &[u32], x: usize, out: &mut [u
     }
 }
 
-// Writes the bodies of the variables one after the other, and their lengths, into cleared slices.
+// Writes the bodies of the variables one after the other, and their lengths, into cleared slices; false where there is no room, and zeros are left.
 pub fn write_bodies(
     vars: u32,
     left: &[u32],
@@ -38,7 +37,7 @@ pub fn write_bodies(
     table: &[u32],
     bodies: &mut [u32],
     lengths: &mut [u32],
-) -> Answer
+) -> bool
     requires { ⌜ (vars ≤ 16) × (length (now term) ≤ 4096) × (length (now table) ≡ 48)
         × (now bodies ≡ replicate (length (now bodies)) 0) × (now lengths ≡ replicate 16 0) ⌝ }
     ensures { λ r. ⌜ BodiesTold vars (now (left .entry)) (now (term .entry)) (now (table .entry)) (length (now (bodies .entry))) (now (bodies .exit)) (now (lengths .exit)) r ⌝ }
@@ -55,9 +54,9 @@ pub fn write_bodies(
             Passed::Stuck => {
                 clear(bodies);
                 clear(lengths);
-                return Answer::Short;
+                return false;
             }
         }
     }
-    Answer::Done
+    true
 }

@@ -1,25 +1,27 @@
 -- What the walk over a left side and a term tells, and what its table of first occurrences says.
 use Prim.Native.Nat.{ℕ, zero, suc, _+_, _-_, _*_, _≤_, _<_}
 use mathlib.Core.Path.{_≡_}
-use mathlib.Core.Bool.{Bool, true, false, _||_}
+use mathlib.Core.Bool.{Bool, true, false, _&&_, _||_}
 use mathlib.Core.List.{List, [], _∷_, _++_}
 use mathlib.Core.Option.{Option, none, some}
-use lib.Dec.{eqb}
+use lib.Dec.{eqb, leb}
 use lib.ListN.{length, take, drop, getD, set, replicate}
-use Rattle.term.specs.Word.{Head, symbol, abstraction, variable, pattern, pick, count, countOf, InTable}
+use Rattle.term.specs.Word.{Head, symbol, abstraction, variable, pattern, pick, count, kindOf, countOf, identOf, InTable}
 use Rattle.term.specs.Row.{Row, nothing, node, width, words, ranks, nesting, Formed}
 use Rattle.term.specs.Renumber.{GoodList}
-use Rattle.term.specs.declared.answer.Answer.{Answer}
 use Rattle.term.specs.declared.renumber.Passed.{Passed}
 use Rattle.term.specs.declared.renumber.Passed.the-variants as step
 use Rattle.term.specs.Part.{bodyOf, sameWords, partEnd}
-use Rattle.book.specs.Rule.{idsOf}
+use Rattle.term.specs.Answer.{answered}
+use Rattle.book.specs.Rule.{idsOf, rootSymbol}
 use Rattle.fit.specs.declared.fitting.First.{First}
+use Rattle.fit.specs.declared.rules.RuleMatch.{RuleMatch}
 use Rattle.fit.specs.declared.fitting.Both.{Both}
 use Rattle.fit.specs.declared.fitting.Both.the-variants.{Done, Stuck}
 use Rattle.fit.specs.Left.{Left, leftOf, occurs}
-use Rattle.fit.specs.Fit.{Found, found, bodyIn, allSame, matching}
-use Rattle.fit.specs.Match.{fitted, fittedO, matchAnswer, matchWords, matchLengths}
+use Rattle.fit.specs.Fit.{Found, found, bodyIn, allSame}
+use Rattle.fit.specs.Front.{rootArguments, aside, matchingFront}
+use Rattle.fit.specs.Match.{bodyList, fitted, fittedO, matchWords, matchLengths, matchRuleCame, matchedCame}
 use Rattle.book.specs.told.Ids.{listIn}
 
 -- ---- a row of a left side, in the words of a book
@@ -125,15 +127,18 @@ FirstWritten left term table x out done (step.Done n) =
     × ((l : Found) → Knows left term table l → present x l ≡ true → (n ≡ length (words (bodyIn l x))) × (done ≡ words (bodyIn l x) ++ replicate (length out - n) 0))
 FirstWritten left term table x out done step.Stuck = (l : Found) → Knows left term table l → present x l ≡ true → length out < length (words (bodyIn l x))
 
--- the bodies of all variables, and their lengths
-unfoldable pub BodiesTold : ℕ → List ℕ → List ℕ → List ℕ → ℕ → List ℕ → List ℕ → Answer → Type 0
+-- the bodies of all variables and their lengths, and whether there is room for them
+unfoldable pub BodiesTold : ℕ → List ℕ → List ℕ → List ℕ → ℕ → List ℕ → List ℕ → Bool → Type 0
 BodiesTold vars left term table room bodies lengths r =
-    (l : Found) → Knows left term table l → ((x : ℕ) → x < vars → present x l ≡ true)
-    → (r ≡ matchAnswer room (fitted vars (bodyIn l))) × (bodies ≡ matchWords room (fitted vars (bodyIn l))) × (lengths ≡ matchLengths room (fitted vars (bodyIn l)))
+    (l : Found) → Knows left term table l → ((x : ℕ) → x < vars → present x l ≡ true) → (n : ℕ)
+    → (leb (length (bodyList (bodyIn l) 0 vars)) room ≡ r) × (bodies ≡ matchWords room (fitted vars n (bodyIn l))) × (lengths ≡ matchLengths room (fitted vars n (bodyIn l)))
+
+-- the second word is the symbol of the first, with no fewer arguments
+abbrev pub coveredWord : ℕ → ℕ → Bool
+coveredWord w v = eqb (kindOf v) 0 && (eqb (identOf w) (identOf v) && leb (countOf w) (countOf v))
 
 -- one rule over one term
-unfoldable pub RuleTold : ℕ → List ℕ → List ℕ → ℕ → List ℕ → List ℕ → Answer → Type 0
+unfoldable pub RuleTold : ℕ → List ℕ → List ℕ → ℕ → List ℕ → List ℕ → RuleMatch → Type 0
 RuleTold vars left term room bodies lengths r =
-    (p t : Row) → LeftStands vars 0 16 1 left 0 p [] → TermStands 1 term 0 t [] → ((x : ℕ) → x < vars → occurs x (leftOf p) ≡ true)
-    → (r ≡ matchAnswer room (fittedO vars (matching (leftOf p) t))) × (bodies ≡ matchWords room (fittedO vars (matching (leftOf p) t)))
-    × (lengths ≡ matchLengths room (fittedO vars (matching (leftOf p) t)))
+    (p t : Row) → LeftStands vars 0 16 1 left 0 p [] → rootSymbol p ≡ true → TermStands 1 term 0 t [] → ((x : ℕ) → x < vars → occurs x (leftOf p) ≡ true)
+    → matchRuleCame (answered (r .answer)) (r .aside) bodies lengths ≡ matchedCame room (fittedO vars (aside (rootArguments (leftOf p)) t) (matchingFront (leftOf p) t))

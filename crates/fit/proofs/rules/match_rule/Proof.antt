@@ -5,26 +5,26 @@ use mathlib.Core.Path.{_≡_, refl, sym, ap, _∙_}
 use Prim.Native.Nat.{ℕ}
 use lib.ListN.{length, replicate}
 use Rattle.term.proofs.Laws.{cleared}
-use Rattle.fit.proofs.Matched.{match-bad-book, match-no-rule, match-bad-term, match-fits, sides-few, sides-lie, left-short, term-short}
+use Rattle.fit.proofs.Matched.{match-bad-book, match-no-rule, match-bad-term, match-fits, sides-few, sides-lie, left-begins, left-short, term-begins, term-short}
 use Rattle.fit.proofs.rules.match_rule.Statement.{statement}
 use Rattle.fit.proofs.rules.match_rule.Tie as tie
 
 returns : tie.Need-returns
 returns c =
-    let s = c .before .before .before .before .before .before .before .before .before .before .before .before .before .args in
-    match-bad-book (s .book .now) (s .number) (s .term .now) (length (s .bodies .now)) _ _ (c .before .before .before .before .before .before .before .before .clear .ensures) (cleared _ _ _ (c .before .before .before .before .before .clear-arg2 .given .0 .1) (c .before .before .before .before .clear2 .ensures)) _ (sym (c .before .before .before .accept-book .ensures) ∙ c .before .answer .given .1)
+    let s = c .before .before .before .before .before .before .before .before .before .before .before .before .before .before .args in
+    match-bad-book (s .book .now) (s .number) (s .term .now) (length (s .bodies .now)) _ _ (c .before .before .before .before .before .before .before .before .before .clear .ensures) (cleared _ _ _ (c .before .before .before .before .before .before .clear-arg2 .given .0 .1) (c .before .before .before .before .before .clear2 .ensures)) _ (sym (c .before .before .before .before .accept-book .ensures) ∙ c .before .before .answer .given .1) _ (c .refuse .ensures)
 
 returns-2 : tie.Need-returns-2
 returns-2 c =
-    let s = c .before .before .before .before .before .before .before .before .before .before .before .before .before .before .before .args in
-    match-no-rule (s .book .now) (s .number) (s .term .now) (length (s .bodies .now)) _ _ (c .before .before .before .before .before .before .before .before .before .before .clear .ensures) (cleared _ _ _ (c .before .before .before .before .before .before .before .clear-arg2 .given .0 .1) (c .before .before .before .before .before .before .clear2 .ensures)) (sym (c .before .before .before .before .before .accept-book .ensures) ∙ c .before .before .before .enum-told .given .1)
-    (sym (c .before .before .find-rule .ensures) ∙ c .enum-told2 .given .1)
+    let s = c .before .before .before .before .before .before .before .before .before .before .before .before .before .before .before .before .args in
+    match-no-rule (s .book .now) (s .number) (s .term .now) (length (s .bodies .now)) _ _ (c .before .before .before .before .before .before .before .before .before .before .before .clear .ensures) (cleared _ _ _ (c .before .before .before .before .before .before .before .before .clear-arg2 .given .0 .1) (c .before .before .before .before .before .before .before .clear2 .ensures)) (sym (c .before .before .before .before .before .before .accept-book .ensures) ∙ c .before .before .before .before .enum-told .given .1)
+    (sym (c .before .before .before .find-rule .ensures) ∙ c .before .enum-told2 .given .1) _ (c .refuse2 .ensures)
 
 returns-3 : tie.Need-returns-3
 returns-3 c =
-    let s = c .before .before .before .before .before .before .before .before .before .before .before .before .before .before .before .before .before .before .before .before .args in
-    match-bad-term (s .book .now) (s .number) (s .term .now) (length (s .bodies .now)) _ _ (c .before .before .before .before .before .before .before .before .before .before .before .before .before .before .before .clear .ensures) (cleared _ _ _ (c .before .before .before .before .before .before .before .before .before .before .before .before .clear-arg2 .given .0 .1) (c .before .before .before .before .before .before .before .before .before .before .before .clear2 .ensures)) (sym (c .before .before .before .before .before .before .before .before .before .before .accept-book .ensures) ∙ c .before .before .before .before .before .before .before .before .enum-told .given .1)
-    _ (sym (c .before .before .before .before .before .before .before .find-rule .ensures) ∙ c .before .before .before .before .before .sides .given .1) _ (sym (c .before .before .before .check-term .ensures) ∙ c .before .at .given .1)
+    let s = c .before .before .before .before .before .before .before .before .before .before .before .before .before .before .before .before .before .before .before .before .before .args in
+    match-bad-term (s .book .now) (s .number) (s .term .now) (length (s .bodies .now)) _ _ (c .before .before .before .before .before .before .before .before .before .before .before .before .before .before .before .before .clear .ensures) (cleared _ _ _ (c .before .before .before .before .before .before .before .before .before .before .before .before .before .clear-arg2 .given .0 .1) (c .before .before .before .before .before .before .before .before .before .before .before .before .clear2 .ensures)) (sym (c .before .before .before .before .before .before .before .before .before .before .before .accept-book .ensures) ∙ c .before .before .before .before .before .before .before .before .before .enum-told .given .1)
+    _ (sym (c .before .before .before .before .before .before .before .before .find-rule .ensures) ∙ c .before .before .before .before .before .before .sides .given .1) _ (sym (c .before .before .before .before .check-term .ensures) ∙ c .before .before .at .given .1) _ (c .refuse3 .ensures)
 
 mul-fit-rule : tie.Need-mul-fit-rule
 mul-fit-rule c =
@@ -51,7 +51,9 @@ fit-rule-requires c κs =
     let a = sym (c .before .before .before .before .before .before .before .before .before .before .before .before .before .accept-book .ensures) ∙ c .before .before .before .before .before .before .before .before .before .before .before .enum-told .given .1 in
     let f = sym (c .before .before .before .before .before .before .before .before .before .before .find-rule .ensures) ∙ c .before .before .before .before .before .before .before .before .sides .given .1 in (
       sides-few (s .book .now) (s .number) (s .term .now) 0 a _ f,
+      left-begins (s .book .now) (s .number) (s .term .now) 0 a _ f,
       left-short (s .book .now) (s .number) (s .term .now) 0 a _ f,
+      term-begins (s .book .now) (s .number) (s .term .now) 0 a _ f (sym (c .before .before .before .before .before .before .check-term .ensures) ∙ c .before .before .before .before .enum-told3 .given .1),
       term-short (s .book .now) (s .number) (s .term .now) 0 a _ f (sym (c .before .before .before .before .before .before .check-term .ensures) ∙ c .before .before .before .before .enum-told3 .given .1),
       refl,
       far .clear .ensures ∙ ap (λ (n : ℕ). replicate n 0) (sym (far .clear .kept .0)),
@@ -72,16 +74,19 @@ match-rule-spec =
     (λ c κs. search needs)
     (λ c κs. search needs)
     (λ c. search needs)
+    (λ c κs. search needs)
     (λ c. search needs)
     returns
     (λ c. search needs)
     (λ c κs. search needs)
     (λ c. search needs)
     (λ c. search needs)
+    (λ c κs. search needs)
     (λ c. search needs)
     returns-2
     (λ c κs. search needs)
     (λ c. search needs)
+    (λ c κs. search needs)
     (λ c. search needs)
     returns-3
     (λ c. search needs)
