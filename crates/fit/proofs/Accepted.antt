@@ -1,9 +1,9 @@
 -- The left side of a rule of an accepted book is as fit needs it: the book asks for its shape, its counts and its variables.
-use mathlib.Core.Path.{_≡_, refl, sym, ap, ap₂, _∙_}
+use mathlib.Core.Path.{_≡_, refl, sym, ap, _∙_}
 use mathlib.Core.Bool.{Bool, true, false, _&&_, _||_}
-use mathlib.Core.List.{List, [], _∷_, _++_, append-nil}
+use mathlib.Core.List.{List, [], _++_, append-nil}
 use mathlib.Core.Option.{Option, none, some}
-use Prim.Native.Nat.{ℕ, zero, suc, _+_, _≤_, _<_, max}
+use Prim.Native.Nat.{ℕ, suc, _+_, _≤_}
 use native.Mathlib.Omega.{arith}
 use lib.Dec.{eqb, ltb}
 use lib.ListN.{getD}
@@ -12,14 +12,14 @@ use Rattle.term.specs.declared.check.Checked.the-variants.{Good}
 use Rattle.term.specs.Word.{Head, symbol, abstraction, variable, pattern, count}
 use Rattle.term.specs.Row.{Row, nothing, node, width, words, nesting, Formed, read}
 use Rattle.term.specs.Check.{Limits, IsTree, IsTerm}
-use Rattle.term.specs.Renumber.{goodList, GoodList}
-use Rattle.term.proofs.Laws.{never, and-left, and-right, read-words, width-nothing, width-node, nesting-nothing, nesting-node, formed-node, count-variable, rank-symbol, rank-abstraction, inside-symbol, inside-abstraction, good-true}
+use Rattle.term.specs.Renumber.{GoodList}
+use Rattle.term.proofs.Laws.{never, and-left, and-right, read-words, width-nothing, width-node, nesting-node, formed-node, count-variable, rank-symbol, rank-abstraction, inside-symbol, inside-abstraction, good-true}
 use Rattle.book.specs.Rule.{idBefore, idsOf, listFor, leftShape, sideLimits}
 use Rattle.book.specs.told.Occurs.{isPattern, occursIn, belowHead, belowVars}
 use Rattle.book.specs.Book.{Rule, checkBook, ruleAt}
-use Rattle.book.proofs.Laws.{RuleFacts, book-rule, ids-nothing, ids-node, left-symbol, left-abstraction, left-variable, left-pattern, occurs-nothing, occurs-node, below-node}
-use Rattle.fit.specs.Left.{Left, end, hole, part, idsOr, leftOf, wide, deep, occurs, GoodLeft}
-use Rattle.fit.specs.Match.{rowOr, treeOf, leftIn}
+use Rattle.book.proofs.Laws.{RuleFacts, book-rule, ids-node, left-symbol, left-abstraction, left-variable, left-pattern, occurs-nothing, occurs-node, below-node}
+use Rattle.fit.specs.Left.{idsOr, leftOf, wide, deep, occurs, GoodLeft}
+use Rattle.fit.specs.Match.{treeOf, leftIn}
 use Rattle.fit.specs.Lowest.{lowest}
 use Rattle.fit.proofs.Matching.{tree-within}
 use Rattle.fit.proofs.Words.{GoodRule}

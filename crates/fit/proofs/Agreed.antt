@@ -1,18 +1,17 @@
 -- Bodies found after others: what was found first decides, and more behind it changes nothing.
-use mathlib.Core.Path.{_≡_, refl, sym, ap, ap₂, _∙_}
+use mathlib.Core.Path.{_≡_, refl, _∙_}
 use mathlib.Core.Bool.{Bool, true, false, _&&_, _||_}
-use mathlib.Core.List.{List, [], _∷_, _++_, append-assoc, append-nil}
+use mathlib.Core.List.{[], _∷_, _++_, append-assoc}
 use mathlib.Core.Option.{Option, none, some}
-use Prim.Native.Nat.{ℕ, zero, suc, _+_, _≤_, _<_}
-use native.Mathlib.Omega.{arith}
+use Prim.Native.Nat.{ℕ, _+_}
 use lib.Dec.{eqb}
-use borrow.Author.Tests.{eqb-true, eq-eqb}
+use borrow.Author.Tests.{eq-eqb}
 use Rattle.term.specs.Word.{pick}
 use Rattle.term.specs.Row.{Row, words}
 use Rattle.term.specs.Part.{sameWords}
 use Rattle.fit.specs.Fit.{Found, bodyThen, bothFound, bodyB, bodyIn, allSame}
 use Rattle.fit.specs.told.Told.{present, agreedFrom}
-use Rattle.term.proofs.Laws.{never, and-left, and-right, and-both}
+use Rattle.term.proofs.Laws.{never, and-both}
 
 -- ---- the first body of a variable in a list and more behind it
 pub body-present : (x : ℕ) (l m : Found) → present x l ≡ true → bodyIn (l ++ m) x ≡ bodyIn l x

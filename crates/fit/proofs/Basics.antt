@@ -1,9 +1,7 @@
 -- Single trees, and heads with one word.
-use mathlib.Core.Path.{_≡_, refl, sym, ap, ap₂, _∙_}
-use mathlib.Core.List.{List, [], _∷_, _++_}
-use Prim.Native.Nat.{ℕ, zero, suc, _+_, _≤_, _<_}
+use mathlib.Core.Path.{_≡_, refl, sym, ap, _∙_}
 use native.Mathlib.Omega.{arith}
-use mathlib.Core.Option.{Option, none, some}
+use mathlib.Core.Option.{some}
 use Rattle.term.specs.Word.{Head, word, headOf, InTable}
 use Rattle.term.specs.Row.{Row, nothing, node, width, _⧺_}
 use Rattle.term.proofs.Laws.{width-nothing, width-node, join-nothing-left, join-node, head-word}

@@ -12,7 +12,6 @@ use Rattle.term.specs.declared.check.Checked.{Checked}
 use Rattle.term.specs.declared.check.Checked.the-variants.{Good, Bad}
 use Rattle.term.specs.declared.answer.Answer.{Answer}
 use Rattle.term.specs.declared.answer.Answer.the-variants as answer
-use Rattle.term.specs.declared.renumber.Passed.the-variants as step
 use Rattle.term.specs.Answer.{answered}
 use Rattle.term.specs.Word.{pick}
 use Rattle.term.specs.Row.{Row, width, words, ranks, nesting, Formed}

@@ -5,7 +5,6 @@ use Prim.Native.Nat.{ℕ, suc, _+_, _-_, _≤_, _<_}
 use native.Mathlib.Omega.{arith}
 use lib.ListN.{length}
 use Rattle.term.specs.declared.renumber.Passed.the-variants as step
-use Rattle.term.specs.Word
 use Rattle.term.specs.Word.{Head, symbol, abstraction, variable, pattern, InTable}
 use Rattle.term.specs.Row.{Row, nothing, node, width, words, ranks, _⧺_}
 use Rattle.term.specs.Renumber.{inside, toTerm}

@@ -44,6 +44,25 @@ marked :
 unfolding s l v m bookA bookB word kind rank count ident headOf headWith words width ranks nesting read firsts others check scan settle mayStand position listed goodList idBody inside renumberHead renumber namedHead named closed toBody sameWords idsOf leftShape rootSymbol rightShape counted oneCount allOccur noOther goodLeft goodRight goodRule ruleOf judge checkBook accept nthRule ruleAt leftOf found bodyIn allSame matching rootArguments front aside matchingFront treeOf leftIn bodyList matchRule
 marked = (refl, refl, refl, refl, refl, refl, refl, refl, refl, refl, refl, refl)
 
+-- ---- document 02: how many arguments are set aside, and the bodies' words
+abbrev counted-bodies : Matched → Option (ℕ × List ℕ)
+counted-bodies (refused a) = none
+counted-bodies (fitted vars n b) = some (n, bodyList b 0 vars)
+
+abbrev fronted : List ℕ → ℕ → List ℕ → Option (ℕ × List ℕ)
+fronted book number ws = counted-bodies (matchRule book number ws)
+
+fronts :
+    (fronted bookA 0 (s 2 2 ∷ s 7 0 ∷ s 7 0 ∷ []) ≡ some (0, s 7 0 ∷ []))
+    × (fronted bookA 0 (s 2 3 ∷ s 7 0 ∷ s 7 0 ∷ s 8 0 ∷ []) ≡ some (1, s 7 0 ∷ []))
+    × (fronted bookA 0 (s 2 3 ∷ s 7 0 ∷ s 8 0 ∷ s 8 0 ∷ []) ≡ none)
+    × (fronted bookA 0 (s 2 1 ∷ s 7 0 ∷ []) ≡ none)
+    × (fronted bookA 0 (s 3 2 ∷ s 7 0 ∷ s 7 0 ∷ []) ≡ none)
+    × (fronted bookA 1 (s 3 3 ∷ l ∷ v 2 ∷ v 1 ∷ v 1 ∷ []) ≡ some (2, v 1 ∷ []))
+    × (fronted bookA 2 (s 3 2 ∷ l ∷ s 4 2 ∷ v 1 ∷ v 1 ∷ v 1 ∷ []) ≡ none)
+unfolding s l v m bookA bookB word kind rank count ident headOf headWith words width ranks nesting read firsts others check scan settle mayStand position listed goodList idBody inside renumberHead renumber namedHead named closed toBody sameWords idsOf leftShape rootSymbol rightShape counted oneCount allOccur noOther goodLeft goodRight goodRule ruleOf judge checkBook accept nthRule ruleAt leftOf found bodyIn allSame matching rootArguments front aside matchingFront treeOf leftIn bodyList matchRule
+fronts = (refl, refl, refl, refl, refl, refl, refl)
+
 -- ---- building: document 01's numbers with their places, and what is left in a slice of so many words
 sixteen : ℕ → List ℕ
 sixteen n = n ∷ replicate 15 0

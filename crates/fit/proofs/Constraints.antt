@@ -1,21 +1,21 @@
 -- A left side's constraints hold together with its shape exactly where it fits.
-use mathlib.Core.Path.{_≡_, refl, sym, ap, ap₂, _∙_}
+use mathlib.Core.Path.{_≡_, refl, sym, ap, _∙_}
 use mathlib.Core.Bool.{Bool, true, false, _&&_}
 use mathlib.Core.List.{List, [], _∷_, _++_, append-assoc}
 use mathlib.Core.Option.{Option, none, some}
-use Prim.Native.Nat.{ℕ, zero, suc, _+_, _≤_, _<_}
+use Prim.Native.Nat.{ℕ, suc, _+_}
 use native.Mathlib.Omega.{arith}
 use lib.Dec.{eqb}
 use lib.ListN.{length}
-use borrow.Author.Tests.{eqb-true, eqb-false, eq-eqb, ne-eqb}
+use borrow.Author.Tests.{eqb-true, eq-eqb}
 use Rattle.term.specs.Word.{Head, word, count, pick}
 use Rattle.term.specs.Row.{Row, nothing, node, width, words, Formed}
-use Rattle.term.specs.Renumber.{GoodList, inside, toBody}
-use Rattle.term.specs.Part.{isSome, sameWords, sameO}
-use Rattle.term.proofs.Laws.{never, and-left, and-right, and-both, formed-node, node-formed, formed-nothing, width-node, width-nothing, closed-all, closed-body, words-same}
+use Rattle.term.specs.Renumber.{GoodList, inside}
+use Rattle.term.specs.Part.{isSome, sameWords}
+use Rattle.term.proofs.Laws.{never, and-left, and-right, formed-node, node-formed, formed-nothing, width-node, width-nothing, closed-all, closed-body, words-same}
 use Rattle.fit.specs.Left.{Left, end, hole, part, wide, GoodLeft}
-use Rattle.fit.specs.Fit.{Found, bodyThen, onlyIf, found, bodyB, bodyIn, allSame, agreed, matching}
-use Rattle.fit.specs.Constraint.{Place, tree, under, treeAt, isHead, shapeFits, Occurrence, occurrences, Constraint, closedAt, sameAt, closeds, firstB, firstOf, sameThen, sames, constraints, bodyHere, bodyAt, holds, allHold}
+use Rattle.fit.specs.Fit.{Found, bodyThen, onlyIf, bodyB, bodyIn, allSame, agreed, matching}
+use Rattle.fit.specs.Constraint.{Place, tree, under, treeAt, isHead, shapeFits, Occurrence, occurrences, Constraint, closedAt, closeds, firstB, firstOf, sameThen, sames, constraints, bodyAt, holds, allHold}
 use Rattle.fit.proofs.Basics.{same-word}
 use Rattle.fit.proofs.Places.{from, at-from, children-at, bodiesAt, found-at, body-here}
 

@@ -1,26 +1,21 @@
 -- Rows of a left side and of a term that stand side by side: their first trees, and what is told of a row by its first tree and the rest.
-use mathlib.Core.Path.{_≡_, refl, sym, ap, ap₂, _∙_}
-use mathlib.Core.Bool.{Bool, true, false, _&&_, _||_}
+use mathlib.Core.Path.{_≡_, refl, sym, ap, _∙_}
+use mathlib.Core.Bool.{Bool, true, false}
 use mathlib.Core.List.{List, [], _∷_, _++_, append-assoc, append-nil}
 use mathlib.Core.Option.{Option, none, some}
-use Prim.Native.Nat.{ℕ, zero, suc, _+_, _-_, _*_, _≤_, _<_, max}
+use Prim.Native.Nat.{ℕ, suc, _+_, _-_, _≤_, _<_}
 use native.Mathlib.Omega.{arith}
-use native.Mathlib.Nat.{le-max-left, le-max-right}
-use native.Mathlib.Numerals.{add-one}
 use lib.Dec.{eqb}
-use lib.ListN.{length, drop, getD, length-append, length-drop}
-use lib.Seq.{drop-cons, drop-drop, drop-at}
-use borrow.Author.Tests.{eqb-true, eq-eqb, ne-eqb}
-use Rattle.term.specs.Word
-use Rattle.term.specs.Word.{Head, symbol, abstraction, variable, pattern, kind, kindOf, countOf, identOf, word, InTable}
-use Rattle.term.specs.Row.{Row, nothing, node, width, words, ranks, nesting, Formed}
+use lib.ListN.{length, drop, length-append, length-drop}
+use lib.Seq.{drop-drop, drop-at}
+use Rattle.term.specs.Word.{Head, symbol, abstraction, variable, pattern, word}
+use Rattle.term.specs.Row.{Row, nothing, node, width, words}
 use Rattle.term.specs.Renumber.{inside, toBody}
-use Rattle.term.specs.told.Walk.{insideWord}
-use Rattle.term.proofs.Laws.{never, words-node, words-nothing, width-node, width-nothing, nesting-node, nesting-nothing, ranks-node, ranks-nothing, formed-node, node-formed, formed-nothing, count-word, kind-word, inside-is, count-symbol, count-abstraction, kind-symbol, kind-abstraction, kind-pattern, inside-symbol, inside-abstraction}
+use Rattle.term.proofs.Laws.{words-node, words-nothing, width-node, width-nothing, nesting-node, nesting-nothing, ranks-node, ranks-nothing, formed-node, node-formed, formed-nothing}
 use Rattle.book.specs.Rule.{idsOf}
 use Rattle.fit.specs.declared.fitting.Both.{Both}
 use Rattle.fit.specs.declared.fitting.Both.the-variants.{Done, Stuck}
-use Rattle.fit.specs.Left.{Left, end, hole, part, idsOr, leftOf}
+use Rattle.fit.specs.Left.{idsOr, leftOf}
 use Rattle.fit.specs.Fit.{Found, bodyThen, bothFound, onlyIf, found, allSame}
 use Rattle.fit.specs.told.Told.{LeftRow, LeftStands, TermStands, Knows, agreedFrom, FitTold}
 use Rattle.fit.proofs.Agreed.{both-agreed, left-disagreed, right-disagreed}

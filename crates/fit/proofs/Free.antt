@@ -1,13 +1,12 @@
 -- A part of a term has a body just where it names no abstraction passed but those of its list: document 001's "FV(t) ∩ V ⊆ {y}". What is named is asked variable by variable, and each id is one of document 01's three cases.
-use mathlib.Core.Path.{_≡_, refl, sym, ap, _∙_}
+use mathlib.Core.Path.{_≡_, refl, _∙_}
 use mathlib.Core.Bool.{Bool, true, false}
 use mathlib.Core.List.{List, [], _∷_, _++_}
 use mathlib.Core.Option.{some}
 use Prim.Native.Nat.{ℕ, zero, suc, _+_, _-_, _≤_, _<_}
 use native.Mathlib.Omega.{arith}
 use lib.Dec.{leb, ltb}
-use lib.ListN.{length}
-use borrow.Author.Tests.{leb-true, leb-false, ltb-true, ltb-false, lt-ltb}
+use borrow.Author.Tests.{leb-true, leb-false, ltb-true, lt-ltb}
 use Rattle.term.specs.Word.{Head, symbol, abstraction, variable, pattern, pick}
 use Rattle.term.specs.Row.{Row, nothing, node, nesting, Formed}
 use Rattle.term.specs.Renumber.{position, GoodList, parameter, idBody, idTerm, inside, renumber, toTerm, toBody}

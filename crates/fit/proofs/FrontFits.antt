@@ -8,7 +8,7 @@ use native.Mathlib.Omega.{arith}
 use native.Mathlib.Decide.{decLe}
 use lib.ListN.{getD}
 use Rattle.term.specs.declared.check.Checked.the-variants.{Good}
-use Rattle.term.specs.Word.{Head, symbol, abstraction, variable, pattern, count, InTable}
+use Rattle.term.specs.Word.{Head, symbol, count, InTable}
 use Rattle.term.specs.Row.{Row, node, width, Formed, _⧺_}
 use Rattle.term.specs.Check.{IsTerm}
 use Rattle.term.specs.Renumber.{inside}

@@ -3,11 +3,11 @@ use mathlib.Core.Path.{_≡_, refl, sym, ap, ap₂, _∙_}
 use mathlib.Core.Bool.{Bool, true, false}
 use mathlib.Core.List.{List, [], _∷_, _++_}
 use mathlib.Core.Option.{Option, none, some}
-use Prim.Native.Nat.{ℕ, zero, suc, _+_, _-_, _*_, _≤_, _<_}
+use Prim.Native.Nat.{ℕ, suc, _+_, _-_, _≤_, _<_}
 use native.Mathlib.Omega.{arith}
 use lib.ListN.{length, length-append, length-drop, drop, getD}
 use borrow.Author.Tests.{eq-eqb}
-use Rattle.term.specs.Word.{Head, symbol, abstraction, variable, pattern, kind, kindOf, countOf, identOf, word, InTable}
+use Rattle.term.specs.Word.{Head, symbol, abstraction, variable, pattern, kindOf, countOf, identOf, word, InTable}
 use Rattle.term.specs.Row.{Row, nothing, node, width, words, Formed}
 use Rattle.term.specs.Renumber.{GoodList, toBody}
 use Rattle.term.specs.Part.{bodyOf, sameWords, partEnd}
@@ -16,9 +16,8 @@ use Rattle.term.proofs.Laws.{never, kind-word, count-word, ident-word, kind-sym
 use Rattle.book.specs.Rule.{idsOf}
 use Rattle.book.specs.told.Ids.{listIn}
 use Rattle.book.proofs.Laws.{ids-counted, list-found}
-use Rattle.fit.specs.declared.fitting.Both.{Both}
 use Rattle.fit.specs.declared.fitting.Both.the-variants.{Done, Stuck}
-use Rattle.fit.specs.Left.{Left, end, hole, part, idsOr, leftOf}
+use Rattle.fit.specs.Left.{Left, end, hole, idsOr, leftOf}
 use Rattle.fit.specs.Fit.{Found, bodyThen, found, bodyIn}
 use Rattle.fit.specs.told.Told.{LeftRow, LeftStands, TermStands, slot, Knows, recorded, FirstSame, agreedFrom, FitTold, VariableTold, sharedEnds, SharesTold}
 use Rattle.fit.proofs.Basics.{single, Single}

@@ -1,25 +1,23 @@
 -- One symbol or abstraction of a left side, over one tree of the term.
-use mathlib.Core.Path.{_≡_, refl, sym, ap, ap₂, _∙_}
-use mathlib.Core.Bool.{Bool, true, false, _&&_, _||_}
-use mathlib.Core.List.{List, [], _∷_, _++_, append-assoc, append-nil}
-use mathlib.Core.Option.{Option, none, some}
-use Prim.Native.Nat.{ℕ, zero, suc, _+_, _-_, _*_, _≤_, _<_, max}
+use mathlib.Core.Path.{_≡_, refl, sym, ap, _∙_}
+use mathlib.Core.List.{List, _∷_, _++_}
+use mathlib.Core.Option.{none, some}
+use Prim.Native.Nat.{ℕ, suc, _+_, _-_, _≤_, _<_}
 use native.Mathlib.Omega.{arith}
 use native.Mathlib.Numerals.{add-one}
-use lib.Dec.{eqb}
 use lib.ListN.{length, drop, getD}
 use lib.Seq.{drop-cons}
-use borrow.Author.Tests.{eqb-true, eq-eqb, ne-eqb}
+use borrow.Author.Tests.{eq-eqb, ne-eqb}
 use Rattle.term.specs.Word
-use Rattle.term.specs.Word.{Head, symbol, abstraction, variable, pattern, kind, kindOf, countOf, identOf, word, InTable}
+use Rattle.term.specs.Word.{Head, symbol, abstraction, variable, pattern, kind, kindOf, countOf, word, InTable}
 use Rattle.term.specs.Row.{Row, nothing, node, width, words, ranks, nesting, Formed}
 use Rattle.term.specs.Renumber.{inside}
 use Rattle.term.specs.told.Walk.{insideWord}
-use Rattle.term.proofs.Laws.{never, words-node, words-nothing, width-node, width-nothing, nesting-node, nesting-nothing, ranks-node, formed-node, count-word, kind-word, inside-is, count-symbol, count-abstraction, kind-symbol, kind-abstraction, kind-pattern, inside-symbol, inside-abstraction, abstraction-in-table}
+use Rattle.term.proofs.Laws.{nesting-node, ranks-node, formed-node, count-word, kind-word, inside-is, count-symbol, count-abstraction, kind-pattern, inside-symbol, inside-abstraction, abstraction-in-table}
 use Rattle.fit.specs.declared.fitting.Both.{Both}
 use Rattle.fit.specs.declared.fitting.Both.the-variants.{Done, Stuck}
-use Rattle.fit.specs.Left.{Left, end, hole, part, leftOf}
-use Rattle.fit.specs.Fit.{Found, bothFound, onlyIf, found}
+use Rattle.fit.specs.Left.{Left, end, part, leftOf}
+use Rattle.fit.specs.Fit.{Found, found}
 use Rattle.fit.specs.told.Told.{LeftRow, LeftStands, TermStands, Knows, agreedFrom, FitTold}
 use Rattle.fit.proofs.Basics.{single, Single, same-word}
 use Rattle.fit.proofs.FitRow.{words-tree, both-end}

@@ -1,5 +1,5 @@
 -- Matching one rule and building a left side, judgement by judgement, of a book that is good: such a book is accepted.
-use mathlib.Core.Path.{_≡_, refl, ap, _∙_}
+use mathlib.Core.Path.{_≡_, refl, sym, ap, ap₂, _∙_}
 use mathlib.Core.Bool.{Bool, true, false}
 use mathlib.Core.List.{List, _++_}
 use mathlib.Core.Option.{none, some}
@@ -11,18 +11,19 @@ use borrow.Author.Tests.{leb-false}
 use Rattle.term.specs.declared.check.Checked.the-variants.{Good, Bad}
 use Rattle.term.specs.declared.answer.Answer.the-variants.{Done, BadTerm, BadBook, Short, NoRule}
 use Rattle.term.specs.Answer.{numberOf}
-use Rattle.term.specs.Word.{pick}
-use Rattle.term.specs.Row.{Row}
+use Rattle.term.specs.Word.{Head, count, pick}
+use Rattle.term.specs.Row.{Row, node, Formed}
 use Rattle.term.specs.Check.{check, termLimits}
-use Rattle.term.proofs.Laws.{padded-short}
+use Rattle.term.proofs.Laws.{padded-short, good-tree}
 use Rattle.book.specs.Book.{Rule, checkBook, ruleAt}
 use Rattle.book.proofs.Laws.{book-rule, good-accepted, bad-refused}
-use Rattle.fit.specs.Fit.{build, IsBody}
-use Rattle.fit.specs.Front.{rootArguments, aside, matchingFront}
+use Rattle.fit.specs.Fit.{build, IsBody, matching}
+use Rattle.fit.specs.Front.{rootArguments, front, aside, matchingFront}
 use Rattle.fit.specs.Match.{treeOf, leftIn, bodyList, lengthList, Matched, refused, fitted, fittedO, matchRule, matchAnswer, matchAside, matchWords, matchLengths}
 use Rattle.fit.specs.Build as building
 use Rattle.fit.specs.Build.{givenBodies, goodLengths, checkBodies, limited, buildLeft}
-use Rattle.fit.proofs.Accepted.{accepted-good}
+use Rattle.fit.proofs.Accepted.{tree-of, accepted-good}
+use Rattle.fit.proofs.Fronts.{aside-node, matching-front, front-same}
 use Rattle.fit.proofs.Asked.{match-refused, match-unknown, match-wrong, match-asked, build-refused, build-unknown, build-wrong-lengths, build-wrong-body, build-asked}
 use Rattle.fit.proofs.BodyLists.{list-lengths, list-words, list-bodies}
 use Rattle.fit.proofs.RoundTrip.{build-agree, body-good, body-tree}
@@ -41,6 +42,17 @@ module _ (book : List ℕ) (number : ℕ) (ws : List ℕ) where
 
     pub match-one-rule : check termLimits ws ≡ Good → matchRule book number ws ≡ fittedO (rule .vars) (aside (rootArguments (leftIn rule)) (treeOf ws)) (matchingFront (leftIn rule) (treeOf ws))
     match-one-rule e = match-asked book number ws (good-accepted book good) rule found e
+
+    -- where the term's root has just as many arguments as the left side, the whole term is matched
+    pub match-whole : check termLimits ws ≡ Good → (g : Head) (ts rs : Row) → treeOf ws ≡ node g ts rs → rootArguments (leftIn rule) ≡ count g
+        → matchRule book number ws ≡ fittedO (rule .vars) 0 (matching (leftIn rule) (treeOf ws))
+    match-whole e g ts rs z n =
+        let i = good-tree termLimits (omega arith) ws e in
+        let w : Formed (node g ts rs) = rw (sym (tree-of termLimits ws i) ∙ z) at (i .formed) in
+        match-one-rule e
+        ∙ ap₂ (fittedO (rule .vars))
+        (ap₂ aside n z ∙ aside-node (count g) g ts rs ∙ omega arith)
+        (matching-front (leftIn rule) (treeOf ws) ∙ ap (matching (leftIn rule)) (ap₂ front n z ∙ front-same g ts rs w ∙ sym z))
 
 -- a refusal leaves zeros
 pub match-zeros : (room : ℕ) (m : Matched) → 10 ≤ numberOf (matchAnswer room m) → (matchWords room m ≡ replicate room 0) × (matchLengths room m ≡ replicate 16 0) × (matchAside room m ≡ 0)

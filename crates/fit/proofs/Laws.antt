@@ -42,7 +42,7 @@ pub use Rattle.fit.proofs.Inner.{head-at}
 pub use Rattle.fit.proofs.Lines.{deep-hole, deep-part, first-nothing, first-here, closeds-none, closeds-more, sames-none, sames-more, constraints-are}
 pub use Rattle.fit.proofs.Lines.{bodies-none, bodies-more, lengths-none, lengths-more, start-none, start-more, words-at-are, refused-built, built-built}
 -- Matching one rule and building a left side, judgement by judgement; what is left of a refusal; what bodies in variable order build.
-pub use Rattle.fit.proofs.Judgements.{match-bad-book, match-no-rule, match-bad-term, match-one-rule, match-zeros, build-bad-book, build-no-rule, build-bad-lengths, build-bad-body, build-from, build-given}
+pub use Rattle.fit.proofs.Judgements.{match-bad-book, match-no-rule, match-bad-term, match-one-rule, match-whole, match-zeros, build-bad-book, build-no-rule, build-bad-lengths, build-bad-body, build-from, build-given}
 -- The same by whether the book is accepted.
 pub use Rattle.fit.proofs.Asked.{sound-good, match-refused, match-unknown, match-wrong, match-asked, build-refused, build-unknown, build-wrong-lengths, build-wrong-body, build-asked}
 -- What comes back, as one record and part by part, both ways.

@@ -1,8 +1,7 @@
 -- Lines of definitions that crates above cite, one law each.
 use mathlib.Core.Path.{_≡_, refl}
-use mathlib.Core.Bool.{Bool}
 use mathlib.Core.List.{List, [], _∷_, _++_}
-use mathlib.Core.Option.{Option, none}
+use mathlib.Core.Option.{none}
 use Prim.Native.Nat.{ℕ, suc, _+_, _≤_}
 use native.Mathlib.Omega.{arith}
 use lib.Dec.{eqb, leb}
@@ -12,10 +11,10 @@ use Rattle.term.specs.declared.answer.Answer.the-variants.{Done, Short}
 use Rattle.term.specs.Word.{Head, pick}
 use Rattle.term.specs.Row.{Row, words}
 use Rattle.term.specs.Part.{padded}
-use Rattle.fit.specs.Left.{Left, end, hole, part, deep}
-use Rattle.fit.specs.Constraint.{Occurrence, occurrences, firstB, firstOf, Constraint, closedAt, closeds, sameThen, sames, constraints}
+use Rattle.fit.specs.Left.{Left, hole, part, deep}
+use Rattle.fit.specs.Constraint.{Occurrence, occurrences, firstB, firstOf, closedAt, closeds, sameThen, sames, constraints}
 use Rattle.fit.specs.Match.{bodyList, lengthList}
-use Rattle.fit.specs.Build.{startOf, wordsAt, Built, refused, built, buildAnswer, buildWords}
+use Rattle.fit.specs.Build.{startOf, wordsAt, refused, built, buildAnswer, buildWords}
 
 -- ---- how deep a left side is
 pub deep-hole : (x : ℕ) (ys : List ℕ) (rest : Left) → deep (hole x ys rest) ≡ deep rest

@@ -1,5 +1,5 @@
 -- What matching one rule answers, way by way: the book, the rule, the term, and then the walk.
-use mathlib.Core.Path.{_≡_, refl, sym, ap, _∙_}
+use mathlib.Core.Path.{_≡_, sym, ap, _∙_}
 use mathlib.Core.Bool.{true}
 use mathlib.Core.List.{List, []}
 use mathlib.Core.Option.{some}
@@ -23,7 +23,6 @@ use Rattle.book.proofs.Laws.{RuleFacts, book-rule, SidesAre, sides-rule, sides-
 use Rattle.fit.specs.declared.rules.RuleMatch.{RuleMatch}
 use Rattle.fit.specs.Match.{treeOf, leftIn, refused, matchRule, matchAnswer, matchAside, matchWords, matchLengths, matchRuleCame, matchedCame, matchRuleGives}
 use Rattle.fit.specs.told.Told.{RuleTold}
-use Rattle.fit.proofs.Words.{GoodRule}
 use Rattle.fit.proofs.Accepted.{tree-of, accepted-good}
 use Rattle.fit.proofs.FitRow.{left-first, term-first}
 use Rattle.fit.proofs.Standing.{accepted-stands, term-standing}

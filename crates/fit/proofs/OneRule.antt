@@ -1,9 +1,9 @@
 -- One rule over one term: where the term's root is covered the walk begins below it with nothing found, finds what matching finds over the arguments that stay, and every variable of the rule is among it.
 use mathlib.Core.Path.{_≡_, refl, sym, ap, ap₂, _∙_}
 use mathlib.Core.Bool.{Bool, true, false, _&&_, _||_}
-use mathlib.Core.List.{List, [], _∷_, _++_, append-assoc}
+use mathlib.Core.List.{List, [], _++_, append-assoc}
 use mathlib.Core.Option.{Option, none, some}
-use Prim.Native.Nat.{ℕ, zero, suc, _+_, _-_, _*_, _≤_, _<_, max}
+use Prim.Native.Nat.{ℕ, _+_, _-_, _*_, _≤_, _<_, max}
 use native.Mathlib.Omega.{arith}
 use lib.Dec.{eqb, leb}
 use lib.ListN.{length, drop, getD, replicate}
@@ -17,7 +17,6 @@ use Rattle.term.specs.Renumber.{inside, toBody}
 use Rattle.term.proofs.Laws.{never, and-right, zero-at, kind-word, count-word, ident-word, kind-symbol, kind-abstraction, kind-variable, kind-pattern, count-symbol, ident-symbol, inside-symbol, formed-node, nesting-node, nesting-join, ranks-node, ranks-join, words-join, firsts-others, width-firsts, formed-firsts}
 use Rattle.book.specs.Rule.{rootSymbol}
 use Rattle.book.proofs.Laws.{root-abstraction, root-variable, root-pattern}
-use Rattle.fit.specs.declared.fitting.Both.{Both}
 use Rattle.fit.specs.declared.fitting.Both.the-variants.{Done, Stuck}
 use Rattle.fit.specs.declared.rules.RuleMatch.{RuleMatch}
 use Rattle.fit.specs.Left.{Left, end, hole, part, leftOf, occurs}

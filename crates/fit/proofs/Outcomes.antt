@@ -1,5 +1,5 @@
 -- What comes back of matching one rule and of building a left side is one record: it is the one that the definition gives just where the answer and each lent list are, since an answer is told by its number and place.
-use mathlib.Core.Path.{_≡_, refl, ap}
+use mathlib.Core.Path.{_≡_, ap}
 use mathlib.Core.List.{List}
 use Prim.Native.Nat.{ℕ}
 use Rattle.term.specs.declared.answer.Answer.{Answer}

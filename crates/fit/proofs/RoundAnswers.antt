@@ -18,7 +18,7 @@ use Rattle.fit.specs.Match.{treeOf, leftIn, bodyList, lengthList, Matche
 use Rattle.fit.specs.Build as building
 use Rattle.fit.specs.Build.{Built, built, buildLeft, buildAnswer, buildWords}
 use Rattle.fit.proofs.Fitted.{fitted-room}
-use Rattle.fit.proofs.RoundTrip.{BuiltO, MatchedO, built-o, matched-o, BackAgain, built-then-matched, built-with-matched, BuiltAgain, matched-then-built}
+use Rattle.fit.proofs.RoundTrip.{BuiltO, MatchedO, built-o, matched-o, BackAgain, built-then-matched, built-with-matched, matched-then-built}
 
 fits : (n room : ℕ) → pick (leb n room) Done Short ≡ Done → n ≤ room
 fits n room e = go (leb n room) refl e

@@ -1,34 +1,21 @@
 -- One pattern variable of a left side, over one tree of the term.
-use mathlib.Core.Path.{_≡_, refl, sym, ap, ap₂, _∙_}
-use mathlib.Core.Bool.{Bool, true, false, _&&_, _||_}
-use mathlib.Core.List.{List, [], _∷_, _++_, append-assoc, append-nil}
-use mathlib.Core.Option.{Option, none, some}
-use Prim.Native.Nat.{ℕ, zero, suc, _+_, _-_, _*_, _≤_, _<_, max}
+use mathlib.Core.Path.{_≡_, refl, sym, ap, _∙_}
+use mathlib.Core.Bool.{Bool, true, false, _||_}
+use mathlib.Core.List.{List, [], _∷_, _++_}
+use mathlib.Core.Option.{some}
+use Prim.Native.Nat.{ℕ, suc, _+_, _-_, _*_, _≤_, _<_}
 use native.Mathlib.Omega.{arith}
 use native.Mathlib.Decide.{ℕ-discrete}
-use lib.Dec.{eqb}
 use lib.ListN.{length, drop, getD, set, length-set}
 use lib.Seq.{getD-set-same, getD-set-other}
-use borrow.Author.Tests.{eqb-true, eqb-false, eq-eqb, ne-eqb, le-leb}
-use Rattle.term.specs.Word
-use Rattle.term.specs.Word.{Head, symbol, abstraction, variable, pattern, kind, kindOf, countOf, identOf, word, InTable, headOf, ident}
-use Rattle.term.specs.Row.{Row, nothing, node, width, words, ranks, nesting, Formed}
-use Rattle.term.specs.Renumber.{GoodList, toBody}
-use Rattle.term.specs.Part.{bodyOf, sameWords, partEnd}
-use Rattle.term.specs.told.Walk.{Stands}
-use Rattle.term.proofs.Laws.{never, words-node, words-nothing, width-node, width-nothing, formed-node, count-word, kind-word, ident-word, head-word, count-variable, count-pattern, ident-pattern, kind-symbol, kind-abstraction, kind-variable, body-stands, part-ends, words-same}
-use Rattle.book.specs.Rule.{idsOf, idBefore}
-use Rattle.book.proofs.Laws.{ids-nothing, ids-node}
-use Rattle.fit.specs.declared.fitting.Both.{Both}
-use Rattle.fit.specs.declared.fitting.Both.the-variants.{Done, Stuck}
-use Rattle.fit.specs.Left.{Left, end, hole, part, idsOr, leftOf}
-use Rattle.fit.specs.Fit.{Found, bodyThen, found, bodyIn, allSame}
-use Rattle.book.specs.told.Ids.{idBeforeO, variableIds, listIn}
-use Rattle.fit.specs.told.Told.{LeftRow, LeftStands, TermStands, slot, present, Seen, Knows, recorded, agreedFrom, FitTold}
-use Rattle.fit.proofs.Basics.{single, Single}
-use Rattle.fit.proofs.FitRow.{words-tree}
-use Rattle.fit.proofs.Inner.{head-at}
-use Rattle.fit.proofs.Agreed.{body-present, body-absent, present-join, first-agreed, first-disagreed}
+use borrow.Author.Tests.{eq-eqb, ne-eqb}
+use Rattle.term.specs.Word.{countOf}
+use Rattle.term.specs.Row.{Row}
+use Rattle.term.specs.Part.{bodyOf}
+use Rattle.fit.specs.Fit.{Found, bodyIn}
+use Rattle.book.specs.told.Ids.{listIn}
+use Rattle.fit.specs.told.Told.{slot, present, Seen, Knows, recorded}
+use Rattle.fit.proofs.Agreed.{body-present, body-absent, present-join}
 
 -- ---- the table after a first occurrence
 module _ (table : List ℕ) (size : length table ≡ 48) (x a b c : ℕ) (low : x < 16) where

@@ -1,13 +1,12 @@
 -- Document 01, "The tree": the constraints of a left side, and the places that they name.
-use Prim.Native.Nat.{ℕ, zero, suc, _≤_}
-use mathlib.Core.Path.{_≡_}
+use Prim.Native.Nat.{ℕ, zero, suc}
 use mathlib.Core.Bool.{Bool, true, false, _&&_}
 use mathlib.Core.List.{List, [], _∷_, _++_}
 use mathlib.Core.Option.{Option, none, some}
 use lib.Dec.{eqb}
 use lib.ListN.{length}
 use Rattle.term.specs.Word.{Head, word, pick}
-use Rattle.term.specs.Row.{Row, nothing, node, words}
+use Rattle.term.specs.Row.{Row, nothing, node}
 use Rattle.term.specs.Renumber.{inside, toBody}
 use Rattle.term.specs.Part.{isSome, sameO}
 use Rattle.fit.specs.Left.{Left, end, hole, part}

@@ -2,7 +2,6 @@
 -- Patterns are left sides, and terms are rows: a row is the tuple (t1 … tn), and so is a left side. V are the d abstractions passed inside the left side, 1 the innermost.
 use Prim.Native.Nat.{ℕ, suc, _-_, _≤_}
 use mathlib.Core.Path.{_≡_}
-use mathlib.Core.Bool.{Bool, true, false}
 use mathlib.Core.List.{List, [], _∷_, _++_}
 use mathlib.Core.Option.{Option, some}
 use lib.Dec.{ltb}

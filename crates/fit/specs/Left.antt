@@ -1,6 +1,6 @@
 -- Left sides: a pattern variable with its list, or a symbol or an abstraction with its children, and what stands to its right.
-use Prim.Native.Nat.{ℕ, zero, suc, _≤_, max}
-use mathlib.Core.Bool.{Bool, true, false, _||_}
+use Prim.Native.Nat.{ℕ, suc, _≤_, max}
+use mathlib.Core.Bool.{Bool, false, _||_}
 use lib.Dec.{eqb}
 use mathlib.Core.Path.{_≡_}
 use mathlib.Core.List.{List, []}

@@ -1,7 +1,7 @@
 // The walk over a left side and a term, tree beside tree. A table keeps each variable's first occurrence.
 ghost use mathlib.Core.Bool.{false};
 ghost use mathlib.Core.Path.{_≡_};
-ghost use Prim.Native.Nat.{ℕ, _+_, _≤_, _<_};
+ghost use Prim.Native.Nat.{_+_, _≤_, _<_};
 ghost use lib.ListN.{length, getD};
 ghost use Rattle.term.specs.Word.{kindOf, identOf};
 ghost use Rattle.fit.specs.told.Told.{FirstTold, recorded, FirstSame, SharesTold, VariableTold, FitTold};

@@ -1,12 +1,12 @@
 -- What the walk over a left side and a term tells, and what its table of first occurrences says.
-use Prim.Native.Nat.{ℕ, zero, suc, _+_, _-_, _*_, _≤_, _<_}
+use Prim.Native.Nat.{ℕ, suc, _+_, _-_, _*_, _≤_, _<_}
 use mathlib.Core.Path.{_≡_}
 use mathlib.Core.Bool.{Bool, true, false, _&&_, _||_}
 use mathlib.Core.List.{List, [], _∷_, _++_}
 use mathlib.Core.Option.{Option, none, some}
 use lib.Dec.{eqb, leb}
 use lib.ListN.{length, take, drop, getD, set, replicate}
-use Rattle.term.specs.Word.{Head, symbol, abstraction, variable, pattern, pick, count, kindOf, countOf, identOf, InTable}
+use Rattle.term.specs.Word.{symbol, abstraction, variable, pattern, pick, count, kindOf, countOf, identOf, InTable}
 use Rattle.term.specs.Row.{Row, nothing, node, width, words, ranks, nesting, Formed}
 use Rattle.term.specs.Renumber.{GoodList}
 use Rattle.term.specs.declared.renumber.Passed.{Passed}
@@ -18,7 +18,7 @@ use Rattle.fit.specs.declared.fitting.First.{First}
 use Rattle.fit.specs.declared.rules.RuleMatch.{RuleMatch}
 use Rattle.fit.specs.declared.fitting.Both.{Both}
 use Rattle.fit.specs.declared.fitting.Both.the-variants.{Done, Stuck}
-use Rattle.fit.specs.Left.{Left, leftOf, occurs}
+use Rattle.fit.specs.Left.{leftOf, occurs}
 use Rattle.fit.specs.Fit.{Found, found, bodyIn, allSame}
 use Rattle.fit.specs.Front.{rootArguments, aside, matchingFront}
 use Rattle.fit.specs.Match.{bodyList, fitted, fittedO, matchWords, matchLengths, matchRuleCame, matchedCame}

@@ -1,11 +1,9 @@
 -- `bodies::write_bodies` meets its contract: the bodies of the variables so far stand one behind the other, and zeros after them.
 use borrow.Author.Needs.{needs}
 use native.Mathlib.Omega.{arith}
-use mathlib.Core.Path.{_≡_, refl, sym, ap, _∙_}
-use mathlib.Core.List.{[]}
-use Prim.Native.Nat.{ℕ, _+_, _-_, _*_, _≤_}
-use lib.ListN.{length, length-drop, take, drop, replicate, length-set, drop-of-length-le}
-use lib.Seq.{length-take-le}
+use mathlib.Core.Path.{refl, sym, ap, _∙_}
+use Prim.Native.Nat.{_-_}
+use lib.ListN.{length, length-drop, drop, drop-of-length-le}
 use Rattle.term.proofs.Laws.{cleared, suffix}
 use Rattle.fit.proofs.BodyLoop.{SoFar, bodies-start, bodies-short, bodies-done, bodies-more, written-within}
 use Rattle.fit.proofs.bodies.write_bodies.Statement.{statement}

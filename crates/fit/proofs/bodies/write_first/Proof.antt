@@ -1,12 +1,8 @@
 -- `bodies::write_first` meets its contract: the first part has the body that was found.
 use borrow.Author.Tests.{not-true, not-false}
 use native.Mathlib.Omega.{arith}
-use mathlib.Core.Path.{_≡_, refl, sym, ap, _∙_}
-use Prim.Native.Nat.{ℕ, _+_, _*_, _≤_}
-use lib.ListN.{length, take, drop, getD}
+use mathlib.Core.Path.{sym, _∙_}
 use lib.Seq.{length-take-le}
-use Rattle.term.specs.declared.part.Written.{Written}
-use Rattle.term.specs.declared.part.Written.the-variants.{Words}
 use Rattle.term.proofs.Laws.{suffix, never}
 use Rattle.fit.proofs.First.{first-is, first-written, first-short, first-unwritten}
 use borrow.Author.Needs.{needs}

@@ -1,9 +1,9 @@
 -- `fitting::first_of` meets its contract: one law for each way.
 use borrow.Author.Needs.{needs}
 use native.Mathlib.Omega.{arith}
-use mathlib.Core.Path.{_≡_, refl, sym, ap, _∙_}
-use Prim.Native.Nat.{ℕ, _+_, _*_}
-use lib.ListN.{length, drop, getD}
+use mathlib.Core.Path.{refl}
+use Prim.Native.Nat.{_+_, _*_}
+use lib.ListN.{getD}
 use Rattle.term.proofs.Laws.{suffix}
 use Rattle.fit.proofs.First.{first-new, first-past-term, first-past-left, first-read}
 use Rattle.fit.proofs.fitting.first_of.Statement.{statement}

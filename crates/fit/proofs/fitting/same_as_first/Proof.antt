@@ -2,12 +2,9 @@
 use borrow.Author.Needs.{needs}
 use borrow.Author.Tests.{not-true, not-false}
 use native.Mathlib.Omega.{arith}
-use mathlib.Core.Path.{_≡_, refl, sym, ap, _∙_}
-use Prim.Native.Nat.{ℕ, _+_, _*_, _≤_}
-use lib.ListN.{length, take, drop, getD}
+use mathlib.Core.Path.{sym}
 use lib.Seq.{length-take-le}
 use Rattle.term.proofs.Laws.{suffix}
-use Rattle.fit.specs.told.Told.{FirstSame}
 use Rattle.fit.proofs.First.{first-is, first-compared, first-absent}
 use Rattle.fit.proofs.fitting.same_as_first.Statement.{statement}
 use Rattle.fit.proofs.fitting.same_as_first.Tie as tie
