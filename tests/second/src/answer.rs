@@ -16,6 +16,7 @@ pub const TOO_SHORT: u32 = 13;
 pub const DAMAGED_TREE: u32 = 14;
 pub const TOO_LARGE: u32 = 15;
 pub const NO_SUCH_RULE: u32 = 16;
+pub const CANNOT_TAKE: u32 = 18;
 
 impl Answer {
     pub const DONE: Answer = Answer { number: DONE, at: 0 };

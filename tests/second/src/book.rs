@@ -43,6 +43,18 @@ impl Rule {
     pub fn occurrence_at(&self, at: usize) -> Option<usize> {
         self.occurrences.iter().position(|o| o.at == at)
     }
+
+    /// How many arguments are set aside where the rule is tried at a root with
+    /// this word; None if the word is not one for the rule.
+    pub fn aside(&self, w: u32) -> Option<u32> {
+        let own = self.left.words[0];
+        let same = kind(w) == SYMBOL && id(w) == id(own);
+        if same {
+            count(w).checked_sub(count(own))
+        } else {
+            None
+        }
+    }
 }
 
 #[derive(Clone, Debug)]

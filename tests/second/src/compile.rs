@@ -4,7 +4,7 @@ use std::rc::Rc;
 
 use crate::answer::{give, of, Answer, TOO_SHORT};
 use crate::book::{self, Book, Rule};
-use crate::words::{count, kind, PATTERN};
+use crate::words::{count, id, kind, symbol, MAX_ARGUMENTS, PATTERN};
 
 pub const MAX_TREE: usize = 16_384;
 
@@ -53,6 +53,8 @@ struct Row {
     places: Vec<Option<u32>>,
     /// Those left, in order.
     constraints: Vec<Constraint>,
+    /// Arguments of the root set aside; known once the root is entered.
+    aside: u32,
 }
 
 impl Row {
@@ -74,6 +76,7 @@ impl Row {
             open: vec![(0, 0)],
             places: vec![None; rule.occurrences.len()],
             constraints,
+            aside: 0,
         }
     }
 
@@ -175,7 +178,7 @@ fn write_node(book: &Book, rows: &[Rc<Row>], next: u32, tree: &mut Vec<u32>) -> 
 }
 
 fn write_leaf(rule: &Rule, row: &Row, tree: &mut Vec<u32>) {
-    tree.extend([LEAF, row.rule as u32, rule.vars as u32]);
+    tree.extend([LEAF, row.rule as u32, rule.vars as u32, row.aside]);
     for variable in 0..rule.vars {
         let n = rule.first(variable);
         let list = &rule.occurrences[n].list;
@@ -231,42 +234,67 @@ fn write_switch(
     place: u32,
     tree: &mut Vec<u32>,
 ) -> Vec<Pending> {
-    // For each row, its offset and head word at the place.
-    let head = |row: &Row| {
-        row.head_at(place)
-            .map(|at| (at, book.rules[row.rule].left.words[at]))
-    };
+    let heads = if place == 0 { root_heads(book, rows) } else { heads(book, rows, place) };
+    tree.extend([SWITCH, place, heads.len() as u32]);
+    let mut subtrees = Vec::new();
+    for &w in &heads {
+        let kept = rows.iter().filter_map(|row| in_case(book, row, place, w, next)).collect();
+        tree.extend([w, 0]);
+        let address_at = Some(tree.len() - 1);
+        subtrees.push(Pending { rows: kept, next: next + count(w), address_at });
+    }
+    let kept = rows.iter().filter(|row| row.head_at(place).is_none()).cloned().collect();
+    tree.push(0);
+    subtrees.push(Pending { rows: kept, next, address_at: Some(tree.len() - 1) });
+    subtrees
+}
+
+/// The heads at a place over all rows, in order of first appearance.
+fn heads(book: &Book, rows: &[Rc<Row>], place: u32) -> Vec<u32> {
     let mut heads: Vec<u32> = Vec::new();
     for row in rows {
-        if let Some((_, w)) = head(row) {
+        if let Some(at) = row.head_at(place) {
+            let w = book.rules[row.rule].left.words[at];
             if !heads.contains(&w) {
                 heads.push(w);
             }
         }
     }
+    heads
+}
 
-    tree.extend([SWITCH, place, heads.len() as u32]);
-    let mut subtrees = Vec::new();
-    for &w in &heads {
-        let mut kept = Vec::new();
-        for row in rows {
-            match head(row) {
-                Some((at, own)) if own == w => {
-                    kept.push(Rc::new(row.enter(&book.rules[row.rule], place, at, next)));
-                }
-                Some(_) => {}
-                // Its pattern variable stands there or above.
-                None => kept.push(row.clone()),
-            }
+/// The heads at the root: each symbol in order of first appearance, with every
+/// count from its smallest on.
+fn root_heads(book: &Book, rows: &[Rc<Row>]) -> Vec<u32> {
+    // Symbols with their smallest counts.
+    let mut symbols: Vec<(u32, u32)> = Vec::new();
+    for w in heads(book, rows, 0) {
+        match symbols.iter_mut().find(|s| s.0 == id(w)) {
+            Some(known) => known.1 = known.1.min(count(w)),
+            None => symbols.push((id(w), count(w))),
         }
-        tree.extend([w, 0]);
-        let address_at = Some(tree.len() - 1);
-        subtrees.push(Pending { rows: kept, next: next + count(w), address_at });
     }
-    let kept = rows.iter().filter(|row| head(row).is_none()).cloned().collect();
-    tree.push(0);
-    subtrees.push(Pending { rows: kept, next, address_at: Some(tree.len() - 1) });
-    subtrees
+    symbols
+        .iter()
+        .flat_map(|&(i, least)| (least..=MAX_ARGUMENTS).map(move |c| symbol(i, c)))
+        .collect()
+}
+
+/// The row as it stands in the case of a head; None if it doesn't.
+fn in_case(book: &Book, row: &Rc<Row>, place: u32, w: u32, next: u32) -> Option<Rc<Row>> {
+    // Without a head, its pattern variable stands there or above.
+    let Some(at) = row.head_at(place) else {
+        return Some(row.clone());
+    };
+    let rule = &book.rules[row.rule];
+    if place != 0 {
+        let equal = rule.left.words[at] == w;
+        return equal.then(|| Rc::new(row.enter(rule, place, at, next)));
+    }
+    let aside = rule.aside(w)?;
+    let mut entered = row.enter(rule, place, at, next);
+    entered.aside = aside;
+    Some(Rc::new(entered))
 }
 
 pub fn compile(book: &[u32], out: &mut [u32]) -> Answer {

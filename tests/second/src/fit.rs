@@ -6,11 +6,14 @@ use crate::renumber::{body_of, part_of};
 use crate::term::{check_term, Laid, MAX_WORDS};
 use crate::words::{kind, PATTERN};
 
-/// The bodies that turn the rule's left side into the term, if there are any.
+/// The bodies that turn the rule's left side into the front of the term, if
+/// there are any, and how many of the root's last arguments are set aside.
 /// Renumbering loses nothing, so each part has at most one body.
-pub fn fit(rule: &Rule, term: &Laid) -> Option<Vec<Vec<u32>>> {
+pub fn fit(rule: &Rule, term: &Laid) -> Option<(Vec<Vec<u32>>, u32)> {
+    let aside = rule.aside(term.words[0])?;
     let mut bodies: Vec<Option<Vec<u32>>> = vec![None; rule.vars];
-    let (mut l, mut t) = (0, 0);
+    // Behind the roots; what is set aside follows the left side's last word.
+    let (mut l, mut t) = (1, 1);
     while l < rule.left.len() {
         let w = rule.left.words[l];
         if kind(w) == PATTERN {
@@ -32,7 +35,8 @@ pub fn fit(rule: &Rule, term: &Laid) -> Option<Vec<Vec<u32>>> {
             t += 1;
         }
     }
-    bodies.into_iter().collect()
+    let bodies = bodies.into_iter().collect::<Option<Vec<_>>>()?;
+    Some((bodies, aside))
 }
 
 /// The left side made of bodies; None if it is too large to be a term.
@@ -77,22 +81,27 @@ pub fn give_bodies(
     Ok(())
 }
 
+/// Beside the answer, how many arguments are set aside: 0 unless it is 0.
 pub fn match_rule(
     book: &[u32],
     number: u32,
     term: &[u32],
     bodies: &mut [u32],
     lengths: &mut [u32; 16],
-) -> Answer {
+) -> (Answer, u32) {
     bodies.fill(0);
     lengths.fill(0);
-    of((|| {
+    let mut set_aside = 0;
+    let answer = of((|| {
         let book = book::read(book)?;
         let rule = rule_of(&book, number)?;
         let term = checked(term)?;
-        let found = fit(rule, &term).ok_or(Answer::new(NO_RULE_FITS, 0))?;
-        give_bodies(&found, bodies, lengths)
-    })())
+        let (found, aside) = fit(rule, &term).ok_or(Answer::new(NO_RULE_FITS, 0))?;
+        give_bodies(&found, bodies, lengths)?;
+        set_aside = aside;
+        Ok(())
+    })());
+    (answer, set_aside)
 }
 
 pub fn build_left(

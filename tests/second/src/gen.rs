@@ -501,11 +501,14 @@ pub fn book(rng: &mut Rng, a: &Alphabet) -> Vec<u32> {
 /// A book with long sides: up to 64 rules of up to 64 words.
 pub fn large_book(rng: &mut Rng, a: &Alphabet) -> Vec<u32> {
     let n = rng.from_to(32, 64);
+    // A root with few arguments has a case for each count up to 15, so half
+    // of the books have roots with many: their trees may be within the size.
+    let many = rng.chance(1, 2);
     let mut made = Vec::new();
     while made.len() < n {
         let mut counts = Vec::new();
         let mut l = Vec::new();
-        let w = a.any(rng);
+        let w = if many { symbol(rng.below(40) as u32, 15 - rng.below(2) as u32) } else { a.any(rng) };
         l.push(w);
         let c = count(w) as usize;
         for _ in 0..c {
@@ -732,8 +735,31 @@ pub fn damage_bodies(rng: &mut Rng, list: &mut Vec<u32>, lengths: &mut [u32; 16]
     }
 }
 
+/// Gives a term with a symbol at its root more arguments at the end, if it
+/// can have them.
+pub fn lengthen(rng: &mut Rng, a: &Alphabet, term: &mut Vec<u32>) {
+    let c = count(term[0]) as usize;
+    if kind(term[0]) != SYMBOL || c >= 15 {
+        return;
+    }
+    let more = match rng.below(6) {
+        0 => 15 - c,
+        1 => rng.from_to(1, 15 - c),
+        _ => rng.from_to(1, (15 - c).min(3)),
+    };
+    let mut new = term.clone();
+    new[0] = symbol(id(term[0]), (c + more) as u32);
+    for _ in 0..more {
+        let size = rng.from_to(1, 4);
+        new.extend(self::term(rng, a, size));
+    }
+    if crate::check_term(&new) == Answer::DONE {
+        *term = new;
+    }
+}
+
 /// A term that a random rule of a good book fits at the root, if it can be
-/// built; otherwise any small term.
+/// built; otherwise any small term. At times with more arguments.
 pub fn instance(rng: &mut Rng, a: &Alphabet, words: &[u32]) -> Vec<u32> {
     if let Ok(book) = book::read(words) {
         if !book.rules.is_empty() {
@@ -743,6 +769,9 @@ pub fn instance(rng: &mut Rng, a: &Alphabet, words: &[u32]) -> Vec<u32> {
             if build_left(words, n as u32, &list, &lengths, &mut out) == Answer::DONE {
                 let end = Laid::of(&out).end[0];
                 out.truncate(end);
+                if rng.chance(2, 5) {
+                    lengthen(rng, a, &mut out);
+                }
                 return out;
             }
         }
@@ -828,17 +857,37 @@ pub fn compiled(words: &[u32]) -> Vec<u32> {
     tree.unwrap_or(vec![FAIL])
 }
 
+/// What a Leaf for a rule says of it.
+#[derive(Clone)]
+struct Shape {
+    /// The arguments of its left side.
+    own: u32,
+    /// Its variables' counts.
+    counts: Vec<u32>,
+}
+
+/// For each rule of a good book, its shape.
+fn shapes(words: &[u32]) -> Vec<Shape> {
+    let shape = |r: &book::Rule| Shape { own: count(r.left.words[0]), counts: r.counts.clone() };
+    match book::read(words) {
+        Ok(book) => book.rules.iter().map(shape).collect(),
+        Err(_) => Vec::new(),
+    }
+}
+
 /// A place of a random tree while it is made.
 #[derive(Clone)]
 struct Spot {
     d: u32,
     entered: bool,
+    /// The count of the head with which it was entered.
+    count: u32,
 }
 
 struct Planter<'a> {
     alphabet: &'a Alphabet,
-    /// For each rule of the book, its variables' counts.
-    counts: Vec<Vec<u32>>,
+    /// For each rule of the book, its shape.
+    shapes: Vec<Shape>,
     tree: Vec<u32>,
     /// One in so many fields is odd; 0 for none.
     odd: usize,
@@ -875,18 +924,26 @@ impl Planter<'_> {
         self.node(rng, spots, room);
     }
 
+    /// A rule for a Leaf under a root with so many children.
+    fn rule(&self, rng: &mut Rng, whole: u32) -> (usize, Shape) {
+        let fits = |r: &usize| self.shapes[*r].own <= whole;
+        let fitting: Vec<usize> = (0..self.shapes.len()).filter(fits).collect();
+        if !self.shapes.is_empty() && rng.chance(7, 8) {
+            let any = fitting.is_empty() || rng.chance(1, 6);
+            let rule = if any { rng.below(self.shapes.len()) } else { *rng.pick(&fitting) };
+            return (rule, self.shapes[rule].clone());
+        }
+        let most = if rng.chance(1, 20) { 18 } else { 4 };
+        (rng.below(66), Shape { own: 0, counts: vec![0; rng.below(most)] })
+    }
+
     fn leaf(&mut self, rng: &mut Rng, spots: &[Spot]) {
-        let fitting = !self.counts.is_empty() && rng.chance(7, 8);
-        let rule = if fitting { rng.below(self.counts.len()) } else { rng.below(66) };
-        let counts = match self.counts.get(rule) {
-            Some(counts) if fitting => counts.clone(),
-            _ => {
-                let most = if rng.chance(1, 20) { 18 } else { 4 };
-                vec![0; rng.below(most)]
-            }
-        };
+        let (rule, Shape { own, counts }) = self.rule(rng, spots[0].count);
         let (r, n) = (self.field(rng, rule as u32), self.field(rng, counts.len() as u32));
-        self.tree.extend([LEAF, r, n]);
+        // Where the root was not entered, as if it had as many as the rule.
+        let whole = if spots[0].entered { spots[0].count } else { own };
+        let aside = near_aside(rng, whole, own);
+        self.tree.extend([LEAF, r, n, aside]);
         for k in counts {
             // A place with enough abstractions, if there is one.
             let wide: Vec<usize> = (0..spots.len()).filter(|&p| spots[p].d >= k).collect();
@@ -915,6 +972,11 @@ impl Planter<'_> {
                 0 | 1 => LAMBDA,
                 2 => variable(rng.from_to(1, 3) as u32),
                 3 if self.odd > 0 => odd_word(rng),
+                // More arguments than the alphabet's symbol has.
+                4 => {
+                    let w = self.alphabet.any(rng);
+                    symbol(id(w), rng.from_to(count(w) as usize, 15) as u32)
+                }
                 _ => self.alphabet.any(rng),
             };
             heads.push((w, self.tree.len() + 1));
@@ -925,9 +987,10 @@ impl Planter<'_> {
         for (w, at) in heads {
             let mut inner = spots.to_vec();
             inner[p].entered = true;
+            inner[p].count = count(w);
             let d = inner[p].d + u32::from(w == LAMBDA);
             for _ in 0..count(w).min(15) {
-                inner.push(Spot { d, entered: false });
+                inner.push(Spot { d, entered: false, count: 0 });
             }
             self.subtree(rng, at, &inner, room);
         }
@@ -978,13 +1041,9 @@ impl Planter<'_> {
 /// A tree that no compiler made: any nodes, right on the whole; with `odd`
 /// above 0 about one in so many fields is off.
 pub fn random_tree(rng: &mut Rng, a: &Alphabet, words: &[u32], odd: usize) -> Vec<u32> {
-    let counts = match book::read(words) {
-        Ok(book) => book.rules.iter().map(|r| r.counts.clone()).collect(),
-        Err(_) => Vec::new(),
-    };
-    let mut planter = Planter { alphabet: a, counts, tree: Vec::new(), odd };
+    let mut planter = Planter { alphabet: a, shapes: shapes(words), tree: Vec::new(), odd };
     let room = rng.from_to(0, 5);
-    planter.node(rng, &[Spot { d: 0, entered: false }], room);
+    planter.node(rng, &[Spot { d: 0, entered: false, count: 0 }], room);
     let mut tree = planter.tree;
     tree.truncate(MAX_TREE);
     tree
@@ -1048,118 +1107,224 @@ fn followed_part(
     }
 }
 
+/// A tree that is made along one term.
+struct Follower {
+    term: Laid,
+    spots: Vec<Followed>,
+    tree: Vec<u32>,
+}
+
+impl Follower {
+    /// A Switch on a place; it must go on where `down` is set.
+    fn switch(&mut self, rng: &mut Rng, a: &Alphabet, down: bool) {
+        // Mostly the newest place, so that the walk goes deep.
+        let newest = down || rng.chance(2, 3);
+        let p = if newest { self.spots.len() - 1 } else { rng.below(self.spots.len()) };
+        if self.spots[p].entered && rng.chance(9, 10) {
+            return;
+        }
+        let w = self.term.words[self.spots[p].at];
+        let mut heads: Vec<u32> = (0..rng.below(3)).map(|_| a.any(rng)).collect();
+        let place = rng.below(heads.len() + 1);
+        if down || !rng.chance(1, 6) {
+            heads.insert(place, w);
+        }
+        let next = (self.tree.len() + 4 + 2 * heads.len()) as u32;
+        let taken = heads.iter().position(|&h| h == w);
+        self.tree.extend([SWITCH, p as u32, heads.len() as u32]);
+        for (n, &h) in heads.iter().enumerate() {
+            // The addresses that aren't taken are anything.
+            let to = if Some(n) == taken { next } else { rng.below(40) as u32 };
+            self.tree.extend([h, to]);
+        }
+        self.tree.push(if taken.is_none() { next } else { rng.below(40) as u32 });
+        if taken.is_some() {
+            self.enter(p);
+        }
+    }
+
+    fn enter(&mut self, p: usize) {
+        self.spots[p].entered = true;
+        let Followed { at, d, .. } = self.spots[p];
+        let d = d + u32::from(self.term.words[at] == LAMBDA);
+        for child in self.term.children(at) {
+            self.spots.push(Followed { at: child, d, entered: false });
+        }
+    }
+
+    fn body(&self, p: u32, list: &[u32]) -> Option<Vec<u32>> {
+        let spot = &self.spots[p as usize];
+        body_of(&self.term, spot.at, spot.d, list)
+    }
+
+    fn test(&mut self, rng: &mut Rng) {
+        let sure = rng.chance(1, 2);
+        let (p, list) = followed_part(rng, &self.term, &self.spots, None, sure);
+        let k = list.len();
+        let says;
+        if rng.chance(1, 2) {
+            self.tree.extend([CLOSED, p, k as u32]);
+            self.tree.extend(&list);
+            says = self.body(p, &list).is_some();
+        } else {
+            let (q, later) = followed_part(rng, &self.term, &self.spots, Some(k), sure);
+            self.tree.extend([SAME, p, q, k as u32]);
+            self.tree.extend(&list);
+            self.tree.extend(&later);
+            let first = self.body(p, &list);
+            says = first.is_some() && first == self.body(q, &later);
+        }
+        // The address that isn't taken is anything; at times both change.
+        let next = self.tree.len() as u32 + 2;
+        let other = if rng.chance(1, 2) { rng.below(60) as u32 } else { next };
+        let yes_goes_on = says != rng.chance(1, 20);
+        self.tree.extend(if yes_goes_on { [next, other] } else { [other, next] });
+    }
+
+    fn leaf(&mut self, rng: &mut Rng, shapes: &[Shape]) {
+        let whole = count(self.term.words[0]);
+        let fitting: Vec<usize> = (0..shapes.len()).filter(|&r| shapes[r].own <= whole).collect();
+        let rule = match rng.below(12) {
+            0 => rng.from_to(62, 65),
+            1 => rng.below(shapes.len()),
+            _ if fitting.is_empty() => rng.below(shapes.len()),
+            _ => *rng.pick(&fitting),
+        };
+        let n = if rng.chance(1, 12) { rng.from_to(15, 17) } else { rng.below(4) };
+        let asked: Vec<Option<usize>> = match shapes.get(rule) {
+            // One count off at times.
+            Some(shape) if rng.chance(5, 6) => {
+                shape.counts.iter().map(|&k| (!rng.chance(1, 20)).then_some(k as usize)).collect()
+            }
+            _ => vec![None; n],
+        };
+        let own = shapes.get(rule).map_or(0, |shape| shape.own);
+        let aside = near_aside(rng, whole, own);
+        self.tree.extend([LEAF, rule as u32, asked.len() as u32, aside]);
+        for k in asked {
+            let (p, list) = followed_part(rng, &self.term, &self.spots, k, true);
+            self.tree.extend([p, list.len() as u32]);
+            self.tree.extend(list);
+        }
+    }
+
+    /// At times one word off, or cut near the end: a node that runs past the
+    /// table.
+    fn spoil(&mut self, rng: &mut Rng) {
+        let tree = &mut self.tree;
+        if rng.chance(1, 10) {
+            let at = rng.below(tree.len());
+            tree[at] = match rng.below(3) {
+                0 => tree[at].wrapping_add(1),
+                1 => self.spots.len() as u32,
+                _ => rng.below(tree.len() + 2) as u32,
+            };
+        }
+        if rng.chance(1, 15) {
+            let cut = rng.from_to(1, 3);
+            tree.truncate(tree.len().saturating_sub(cut));
+        }
+    }
+}
+
+/// How many arguments a Leaf sets aside at a root with `whole` children, for a
+/// rule with `own` arguments: right mostly, wrong at times.
+fn near_aside(rng: &mut Rng, whole: u32, own: u32) -> u32 {
+    let right = whole.saturating_sub(own);
+    match rng.below(30) {
+        0 => right + 1,
+        1 => right.wrapping_sub(1),
+        2 => whole,
+        3 => whole + 1,
+        4 => rng.below(17) as u32,
+        5 => rng.next() as u32,
+        _ => right,
+    }
+}
+
 /// A term with many abstractions, and a tree whose nodes follow it down, with
 /// tests on the way and a Leaf at the end: damage is met late, if at all.
 pub fn following(rng: &mut Rng, a: &Alphabet, words: &[u32]) -> (Vec<u32>, Vec<u32>) {
-    let counts: Vec<Vec<u32>> = match book::read(words) {
-        Ok(book) => book.rules.iter().map(|r| r.counts.clone()).collect(),
-        Err(_) => Vec::new(),
-    };
+    let shapes = shapes(words);
     let mut words = Vec::new();
-    for _ in 0..rng.below(9) {
-        words.push(LAMBDA);
+    // Half of the time a symbol at the root, the abstractions last in it.
+    if rng.chance(1, 2) {
+        let own = if shapes.is_empty() { 0 } else { rng.pick(&shapes).own };
+        let more = if rng.chance(1, 2) { 0 } else { rng.below(16) as u32 };
+        let whole = (own + more).clamp(1, 15);
+        words.push(symbol(rng.from_to(2, 6) as u32, whole));
+        words.extend((1..whole).map(|_| a.leaf(rng)));
     }
-    let above = words.len() as u32;
+    let down = usize::from(!words.is_empty());
+    let above = rng.below(9);
+    words.extend(std::iter::repeat_n(LAMBDA, above));
     let size = rng.from_to(1, 14);
-    grow(rng, a, size, 20, above, &mut words);
-    let term = Laid::of(&words);
+    grow(rng, a, size, 20, above as u32, &mut words);
 
-    let mut tree: Vec<u32> = Vec::new();
-    let mut spots = vec![Followed { at: 0, d: 0, entered: false }];
+    let root = Followed { at: 0, d: 0, entered: false };
+    let mut made = Follower { term: Laid::of(&words), spots: vec![root], tree: Vec::new() };
     // Straight down through the first abstractions half of the time.
-    let straight = if rng.chance(1, 2) { above as usize } else { 0 };
+    let straight = if rng.chance(1, 2) { down + above } else { 0 };
     for n in 0..straight + rng.below(10) {
         let down = n < straight;
         if down || rng.chance(3, 4) {
-            // Mostly the newest place, so that the walk goes deep.
-            let newest = down || rng.chance(2, 3);
-            let p = if newest { spots.len() - 1 } else { rng.below(spots.len()) };
-            if spots[p].entered && rng.chance(9, 10) {
-                continue;
-            }
-            let Followed { at, d, .. } = spots[p];
-            let w = words[at];
-            let mut heads: Vec<u32> = (0..rng.below(3)).map(|_| a.any(rng)).collect();
-            let place = rng.below(heads.len() + 1);
-            let default_taken = !down && rng.chance(1, 6);
-            if !default_taken {
-                heads.insert(place, w);
-            }
-            let next = (tree.len() + 4 + 2 * heads.len()) as u32;
-            let taken = heads.iter().position(|&h| h == w);
-            tree.extend([SWITCH, p as u32, heads.len() as u32]);
-            for (n, &h) in heads.iter().enumerate() {
-                // The addresses that aren't taken are anything.
-                let to = if Some(n) == taken { next } else { rng.below(40) as u32 };
-                tree.extend([h, to]);
-            }
-            tree.push(if taken.is_none() { next } else { rng.below(40) as u32 });
-            if taken.is_some() {
-                spots[p].entered = true;
-                let d = d + u32::from(w == LAMBDA);
-                for child in term.children(at) {
-                    spots.push(Followed { at: child, d, entered: false });
-                }
-            }
+            made.switch(rng, a, down);
         } else {
-            let sure = rng.chance(1, 2);
-            let (p, list) = followed_part(rng, &term, &spots, None, sure);
-            let k = list.len();
-            let body = |p: u32, list: &[u32]| {
-                let spot = &spots[p as usize];
-                body_of(&term, spot.at, spot.d, list)
-            };
-            let says;
-            if rng.chance(1, 2) {
-                tree.extend([CLOSED, p, k as u32]);
-                tree.extend(&list);
-                says = body(p, &list).is_some();
-            } else {
-                let (q, later) = followed_part(rng, &term, &spots, Some(k), sure);
-                tree.extend([SAME, p, q, k as u32]);
-                tree.extend(&list);
-                tree.extend(&later);
-                says = body(p, &list).is_some() && body(p, &list) == body(q, &later);
+            made.test(rng);
+        }
+    }
+    made.leaf(rng, &shapes);
+    made.spoil(rng);
+    (made.tree, words)
+}
+
+/// The addresses of the Leafs in a whole tree, each node being followed by its
+/// subtrees.
+pub fn leafs(tree: &[u32]) -> Vec<usize> {
+    let field = |at: usize| tree.get(at).copied().unwrap_or(0) as usize;
+    let mut found = Vec::new();
+    let mut at = 0;
+    while at < tree.len() {
+        at += match tree[at] {
+            FAIL => 1,
+            LEAF => {
+                found.push(at);
+                let mut length = 4;
+                for _ in 0..field(at + 2).min(16) {
+                    length += 2 + field(at + length + 1).min(4);
+                }
+                length
             }
-            // The address that isn't taken is anything; at times both change.
-            let next = tree.len() as u32 + 2;
-            let other = if rng.chance(1, 2) { rng.below(60) as u32 } else { next };
-            let yes_goes_on = says != rng.chance(1, 20);
-            tree.extend(if yes_goes_on { [next, other] } else { [other, next] });
-        }
-    }
-    let rule = match rng.below(12) {
-        0 => rng.from_to(62, 65),
-        _ => rng.below(counts.len()),
-    };
-    let n = if rng.chance(1, 12) { rng.from_to(15, 17) } else { rng.below(4) };
-    let asked: Vec<Option<usize>> = match counts.get(rule) {
-        // One count off at times.
-        Some(counts) if rng.chance(5, 6) => {
-            counts.iter().map(|&k| (!rng.chance(1, 20)).then_some(k as usize)).collect()
-        }
-        _ => vec![None; n],
-    };
-    tree.extend([LEAF, rule as u32, asked.len() as u32]);
-    for k in asked {
-        let (p, list) = followed_part(rng, &term, &spots, k, true);
-        tree.extend([p, list.len() as u32]);
-        tree.extend(list);
-    }
-    if rng.chance(1, 10) {
-        let at = rng.below(tree.len());
-        tree[at] = match rng.below(3) {
-            0 => tree[at].wrapping_add(1),
-            1 => spots.len() as u32,
-            _ => rng.below(tree.len() + 2) as u32,
+            SWITCH => 4 + 2 * field(at + 2).min(MAX_TREE),
+            CLOSED => 5 + field(at + 2).min(4),
+            SAME => 6 + 2 * field(at + 3).min(4),
+            // No whole tree.
+            _ => return found,
         };
     }
-    if rng.chance(1, 15) {
-        // Cut near the end: a node that runs past the table.
-        let cut = rng.from_to(1, 3);
-        tree.truncate(tree.len().saturating_sub(cut));
+    found
+}
+
+/// Sets wrong numbers aside: in one Leaf, or in all of them.
+pub fn wrong_aside(rng: &mut Rng, tree: &mut [u32]) {
+    let leafs = leafs(tree);
+    let all = rng.chance(1, 2);
+    let one = rng.below(leafs.len());
+    let way = rng.below(6);
+    for (n, leaf) in leafs.into_iter().enumerate() {
+        if (!all && n != one) || leaf + 3 >= tree.len() {
+            continue;
+        }
+        let old = tree[leaf + 3];
+        tree[leaf + 3] = match way {
+            0 => old.wrapping_add(1),
+            1 => old.wrapping_sub(1),
+            2 => 0,
+            3 => 15,
+            4 => 16,
+            _ => rng.below(18) as u32,
+        };
     }
-    (tree, words)
 }
 
 /// Changes a few words of a tree, mostly by little.
@@ -1184,11 +1349,16 @@ pub fn damage_tree(rng: &mut Rng, tree: &mut Vec<u32>) {
 
 /// A tree for a book: compiled, random, damaged, or of another book.
 pub fn any_tree(rng: &mut Rng, a: &Alphabet, words: &[u32]) -> Vec<u32> {
-    match rng.below(12) {
+    match rng.below(13) {
         0..=3 => compiled(words),
         4 | 5 => {
             let mut tree = compiled(words);
             damage_tree(rng, &mut tree);
+            tree
+        }
+        12 => {
+            let mut tree = compiled(words);
+            wrong_aside(rng, &mut tree);
             tree
         }
         6..=8 => random_tree(rng, a, words, 0),
@@ -1343,14 +1513,40 @@ pub fn any_term_text(rng: &mut Rng, a: &Alphabet) -> Vec<u8> {
     text
 }
 
+/// A term for a file: planted, or at an edge, or bad.
+fn file_term(rng: &mut Rng, a: &Alphabet, words: &[u32]) -> Vec<u32> {
+    let mut term = planted(rng, a, words);
+    match rng.below(12) {
+        0 => term = edge_term(rng),
+        1 => {
+            let at = rng.below(term.len());
+            term[at] = pattern(1, 1);
+        }
+        2 => {
+            term.pop();
+            if term.is_empty() {
+                term.push(LAMBDA);
+            }
+        }
+        _ => {}
+    }
+    term
+}
+
 /// A standard input for the program, whole or damaged.
 pub fn any_file(rng: &mut Rng) -> Vec<u8> {
     let a = alphabet(rng);
     let words;
     let mut text;
+    let mut terms = Vec::new();
     if rng.chance(1, 12) {
         text = any_book_text(rng, &a);
         words = book(rng, &a);
+    } else if rng.chance(1, 5) {
+        let (made, term) = aside_rules(rng);
+        words = book_words(&made);
+        text = sources_text(&made);
+        terms.push(term);
     } else {
         let n = rule_number(rng);
         let made = rules(rng, &a, n);
@@ -1358,21 +1554,9 @@ pub fn any_file(rng: &mut Rng) -> Vec<u8> {
         text = sources_text(&made);
     }
     for _ in 0..rng.below(6) {
-        let mut term = planted(rng, &a, &words);
-        match rng.below(12) {
-            0 => term = edge_term(rng),
-            1 => {
-                let at = rng.below(term.len());
-                term[at] = pattern(1, 1);
-            }
-            2 => {
-                term.pop();
-                if term.is_empty() {
-                    term.push(LAMBDA);
-                }
-            }
-            _ => {}
-        }
+        terms.push(file_term(rng, &a, &words));
+    }
+    for term in terms {
         text.extend(b"term=");
         text.extend(words_text(&term).into_bytes());
         text.push(b'\n');
@@ -1459,6 +1643,12 @@ pub struct MatchRuleCase {
 }
 
 pub fn match_rule_case(rng: &mut Rng) -> MatchRuleCase {
+    if rng.chance(1, 6) {
+        let RewriteCase { book, term, .. } = aside_case(rng);
+        let number = rule_asked(rng, &book);
+        let bodies_length = output_length(rng, term.len());
+        return MatchRuleCase { book, number, term, bodies_length };
+    }
     let a = alphabet(rng);
     let book = any_book(rng, &a);
     let number = rule_asked(rng, &book);
@@ -1473,6 +1663,9 @@ pub fn match_rule_case(rng: &mut Rng) -> MatchRuleCase {
                     let end = Laid::of(&out).end[0];
                     out.truncate(end);
                     term = out;
+                    if rng.chance(2, 5) {
+                        lengthen(rng, &a, &mut term);
+                    }
                     if rng.chance(1, 4) {
                         nudge(rng, &mut term);
                     }
@@ -1527,10 +1720,11 @@ pub struct CompileCase {
 
 pub fn compile_case(rng: &mut Rng) -> CompileCase {
     let a = alphabet(rng);
-    let book = match rng.below(10) {
+    let book = match rng.below(11) {
         0 => damaged_book(rng, &a),
         1 => edge_book(rng),
         2 => large_book(rng, &a),
+        4 => book_words(&aside_rules(rng).0),
         3 => {
             let n = rng.from_to(8, 40);
             book_words(&rules(rng, &a, n))
@@ -1563,6 +1757,11 @@ pub struct MatchTreeCase {
 }
 
 pub fn match_tree_case(rng: &mut Rng) -> MatchTreeCase {
+    if rng.chance(1, 6) {
+        let RewriteCase { tree, term, .. } = aside_case(rng);
+        let bodies_length = output_length(rng, term.len());
+        return MatchTreeCase { tree, term, bodies_length };
+    }
     let a = alphabet(rng);
     let book = book(rng, &a);
     let (tree, term) = tree_and_term(rng, &a, &book);
@@ -1582,6 +1781,9 @@ pub struct RewriteCase {
 
 /// For rewriting at the root and for simplifying.
 pub fn rewrite_case(rng: &mut Rng) -> RewriteCase {
+    if rng.chance(1, 5) {
+        return aside_case(rng);
+    }
     let a = alphabet(rng);
     let good = book(rng, &a);
     let (tree, term) = tree_and_term(rng, &a, &good);
@@ -1601,6 +1803,201 @@ pub fn rewrite_case(rng: &mut Rng) -> RewriteCase {
         1 => rng.below(20),
         _ => MAX_WORDS + rng.below(2),
     };
+    RewriteCase { book, tree, term, budget, out_length }
+}
+
+/// A symbol whose count with `aside` more is 15 or 16 often.
+fn taking_head(rng: &mut Rng, aside: usize) -> u32 {
+    let c = match rng.below(5) {
+        0 | 1 => 15 - aside,
+        2 => (16 - aside).min(15),
+        3 => 0,
+        _ => rng.below(16),
+    };
+    symbol(rng.from_to(8, 9) as u32, c as u32)
+}
+
+/// A body for a variable of count k by what stands at its root: a symbol, an
+/// abstraction, a variable outside, a parameter. At times a long or deep one.
+fn rooted_body(rng: &mut Rng, k: u32, aside: usize) -> Vec<u32> {
+    let mut out = match rng.below(5) {
+        0 | 1 => vec![taking_head(rng, aside)],
+        2 => vec![LAMBDA],
+        3 if k > 0 => return vec![variable(rng.from_to(1, k as usize) as u32)],
+        _ => return vec![variable(k + rng.from_to(1, 3) as u32)],
+    };
+    let large = if rng.chance(1, 10) { rng.below(count(out[0]) as usize) as u32 } else { 15 };
+    for n in 0..count(out[0]) {
+        let leaf = [symbol(7, 0), variable(1), variable(2)];
+        if n != large {
+            out.push(*rng.pick(&leaf));
+        } else if rng.chance(1, 2) {
+            let n = rng.from_to(1_300, 2_100);
+            out.extend(wide(rng, n));
+        } else {
+            let n = rng.from_to(50, 62);
+            out.extend(chain(rng, n));
+        }
+    }
+    out
+}
+
+/// A left side with b arguments for the symbol 3 and its variables' counts.
+fn aside_left(rng: &mut Rng, b: usize) -> (Vec<u32>, Vec<u32>) {
+    let mut left = vec![symbol(3, b as u32)];
+    let mut counts = Vec::new();
+    for _ in 0..b {
+        let x = counts.len() as u32;
+        match rng.below(6) {
+            0 => left.push(symbol(7, 0)),
+            1..=3 => {
+                left.push(pattern(x, 0));
+                counts.push(0);
+            }
+            4 => {
+                left.extend([LAMBDA, pattern(x, 1), variable(1)]);
+                counts.push(1);
+            }
+            _ => {
+                left.extend([LAMBDA, LAMBDA, pattern(x, 2), variable(1), variable(2)]);
+                counts.push(2);
+            }
+        }
+    }
+    if side_is_whole(&left) {
+        (left, counts)
+    } else {
+        aside_left(rng, b)
+    }
+}
+
+/// Adds a right-side part by what stands at its root: a symbol, an abstraction
+/// or a pattern variable, whose children are again such parts.
+fn aside_right(rng: &mut Rng, counts: &[u32], aside: usize, room: usize, out: &mut Vec<u32>) {
+    let x = rng.below(counts.len());
+    match rng.below(5) {
+        0 if counts.get(x) == Some(&0) => {
+            out.extend([LAMBDA, symbol(2, 2), pattern(x as u32, 0), pattern(x as u32, 0)]);
+        }
+        0 => out.extend([LAMBDA, variable(1)]),
+        1 | 2 if room > 0 && !counts.is_empty() => {
+            out.push(pattern(x as u32, counts[x]));
+            for _ in 0..counts[x] {
+                aside_right(rng, counts, aside, room - 1, out);
+            }
+        }
+        _ => {
+            let w = taking_head(rng, aside);
+            out.push(w);
+            for _ in 0..count(w) {
+                // Variables without parameters, so that the side stays short.
+                let plain = counts.get(x) == Some(&0) && rng.chance(1, 2);
+                out.push(if plain { pattern(x as u32, 0) } else { symbol(7, 0) });
+            }
+        }
+    }
+}
+
+fn aside_rule(rng: &mut Rng, b: usize, aside: usize) -> Source {
+    let (left, counts) = aside_left(rng, b);
+    loop {
+        let mut right = Vec::new();
+        aside_right(rng, &counts, aside, 3, &mut right);
+        if side_is_whole(&right) {
+            return Source { vars: counts.len() as u32, left, right };
+        }
+    }
+}
+
+/// The bodies for a rule's variables by what stands at their roots.
+fn aside_bodies(rng: &mut Rng, book: &[u32], aside: usize) -> (Vec<u32>, [u32; 16]) {
+    let mut list = Vec::new();
+    let mut lengths = [0; 16];
+    if let Ok(read) = book::read(book) {
+        for (x, &k) in read.rules[0].counts.iter().enumerate() {
+            let one = rooted_body(rng, k, aside);
+            lengths[x] = one.len() as u32;
+            list.extend(one);
+        }
+    }
+    (list, lengths)
+}
+
+/// A rule whose written side is around the limits, and a term for it with
+/// arguments set aside: 15 and 18 alone, and both at once.
+fn aside_large(rng: &mut Rng) -> (Vec<Source>, Vec<u32>) {
+    let (x, s2, s4) = (pattern(0, 0), symbol(2, 2), symbol(4, 1));
+    let rights: [&[u32]; 4] = [&[s2, x, x], &[LAMBDA, s2, x, x], &[s4, LAMBDA, x], &[LAMBDA, x]];
+    let right = rng.pick(&rights).to_vec();
+    let rules = vec![Source { vars: 1, left: vec![symbol(3, 1), x], right }];
+    let more = if rng.chance(1, 2) { rng.from_to(1, 2) } else { rng.from_to(1, 14) };
+    let mut term = vec![symbol(3, 1 + more as u32)];
+    match rng.below(3) {
+        0 => {
+            let n = rng.from_to(2_038, 2_050);
+            term.extend(wide(rng, n));
+        }
+        1 => {
+            let n = rng.from_to(61, 63);
+            term.extend(chain(rng, n));
+        }
+        _ => term.push(variable(65_534 + rng.below(2) as u32)),
+    }
+    term.extend(std::iter::repeat_n(symbol(7, 0), more));
+    (rules, term)
+}
+
+/// Rules for the front of a term's arguments, one or two, and the term.
+pub fn aside_rules(rng: &mut Rng) -> (Vec<Source>, Vec<u32>) {
+    if rng.chance(1, 15) {
+        return aside_large(rng);
+    }
+    let b = if rng.chance(1, 2) { rng.from_to(0, 3) } else { rng.from_to(0, 15) };
+    let whole = match rng.below(4) {
+        0 => 15,
+        1 => b,
+        _ => rng.from_to(b, 15),
+    };
+    let aside = whole - b;
+    let mut rules = vec![aside_rule(rng, b, aside)];
+    let book = book_words(&rules);
+    let (list, lengths) = aside_bodies(rng, &book, aside);
+    let mut term = vec![0; MAX_WORDS];
+    if build_left(&book, 0, &list, &lengths, &mut term) != Answer::DONE {
+        return aside_rules(rng);
+    }
+    term.truncate(Laid::of(&term).end[0]);
+    term[0] = symbol(3, whole as u32);
+    for _ in 0..aside {
+        let leaf = [symbol(7, 0), symbol(8, 0), variable(1), variable(2), variable(65_535)];
+        term.push(*rng.pick(&leaf));
+    }
+    if rng.chance(1, 3) {
+        // Another rule for the symbol, before or after, with its own count.
+        let other = rng.from_to(0, 15);
+        let rule = aside_rule(rng, other, 15 - other);
+        rules.insert(rng.below(2), rule);
+    }
+    for _ in 0..rng.below(5) / 2 {
+        term.insert(0, *rng.pick(&[LAMBDA, symbol(4, 1)]));
+    }
+    (rules, term)
+}
+
+/// Rewriting with arguments set aside: 18 often, at times where 15 would be
+/// due as well, and numbers set aside that are wrong.
+pub fn aside_case(rng: &mut Rng) -> RewriteCase {
+    let (rules, mut term) = aside_rules(rng);
+    let book = book_words(&rules);
+    let mut tree = compiled(&book);
+    if rng.chance(1, 8) {
+        wrong_aside(rng, &mut tree);
+    }
+    if rng.chance(1, 10) {
+        nudge(rng, &mut term);
+    }
+    let budget = if rng.chance(1, 3) { rng.below(2) as u16 } else { rng.below(30) as u16 };
+    let out_length = if rng.chance(1, 4) { output_length(rng, term.len()) } else { MAX_WORDS };
     RewriteCase { book, tree, term, budget, out_length }
 }
 

@@ -2,7 +2,7 @@
 
 use crate::book::Rule;
 use crate::term::{Laid, MAX_NESTING, MAX_WORDS};
-use crate::words::{id, kind, variable, ABSTRACTION, MAX_ID, PATTERN, VARIABLE};
+use crate::words::{count, id, kind, variable, ABSTRACTION, MAX_ID, PATTERN, VARIABLE};
 
 /// What is written would be no term.
 pub struct TooLarge;
@@ -23,6 +23,25 @@ struct Writer<'a> {
     right: &'a Laid,
     bodies: &'a [Laid],
     out: Vec<u32>,
+}
+
+/// The word at the root of what is written, but for a variable's id: known
+/// without writing, so also where writing goes over a limit.
+pub fn written_root(rule: &Rule, bodies: &[Vec<u32>]) -> u32 {
+    let mut at = 0;
+    // Each turn goes down to a child of the right side.
+    loop {
+        let w = rule.right.words[at];
+        if kind(w) != PATTERN {
+            return w;
+        }
+        let root = bodies[id(w) as usize][0];
+        let parameter = kind(root) == VARIABLE && id(root) <= count(w);
+        if !parameter {
+            return root;
+        }
+        at = rule.right.children(at)[id(root) as usize - 1];
+    }
 }
 
 /// Writes the rule's right side with these bodies, its root nesting as given.

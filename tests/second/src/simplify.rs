@@ -1,17 +1,35 @@
 //! Rewriting at the root, and simplifying.
 
-use crate::answer::{give, of, Answer, BUDGET_USED, NO_RULE_FITS, TOO_LARGE};
+use crate::answer::{give, of, Answer, BUDGET_USED, CANNOT_TAKE, NO_RULE_FITS, TOO_LARGE};
 use crate::book::{self, Book};
 use crate::fit::checked;
-use crate::right::write_right;
+use crate::right::{write_right, written_root};
 use crate::term::{check_term, Laid};
 use crate::walk::{check_length, walk, Found};
+use crate::words::{count, id, kind, word, MAX_ARGUMENTS, SYMBOL};
 
-/// The whole term after the part at `at` was rewritten, or 15.
+/// The root of what is written once it has taken the arguments set aside, or
+/// 18 if it can't take them.
+fn taking(root: u32, aside: u32) -> Result<u32, Answer> {
+    let sum = count(root) + aside;
+    if aside > 0 && (kind(root) != SYMBOL || sum > MAX_ARGUMENTS) {
+        return Err(Answer::new(CANNOT_TAKE, aside));
+    }
+    Ok(word(kind(root), sum, id(root)))
+}
+
+/// The whole term after the part at `at` was rewritten, or 18 or 15.
 fn rewritten(book: &Book, term: &Laid, at: usize, found: &Found) -> Result<Vec<u32>, Answer> {
     let too_large = Answer::new(TOO_LARGE, 0);
-    let part = write_right(&book.rules[found.rule], &found.bodies, term.nesting[at])
-        .map_err(|_| too_large)?;
+    let rule = &book.rules[found.rule];
+    let root = taking(written_root(rule, &found.bodies), found.aside)?;
+    let mut part =
+        write_right(rule, &found.bodies, term.nesting[at]).map_err(|_| too_large)?;
+    if found.aside > 0 {
+        part[0] = root;
+        let kept = (count(term.words[at]) - found.aside) as usize;
+        part.extend(&term.words[term.children(at)[kept]..term.end[at]]);
+    }
     let mut new = term.words[..at].to_vec();
     new.extend(part);
     new.extend(&term.words[term.end[at]..]);

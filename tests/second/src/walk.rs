@@ -6,7 +6,7 @@ use crate::compile::{CLOSED, FAIL, LEAF, MAX_TREE, SAME, SWITCH};
 use crate::fit::{checked, give_bodies};
 use crate::renumber::{body_of, list_is_good};
 use crate::term::Laid;
-use crate::words::{kind, ABSTRACTION};
+use crate::words::{count, kind, ABSTRACTION};
 
 /// A subterm uncovered on the way.
 #[derive(Clone, Copy)]
@@ -18,9 +18,11 @@ struct Place {
     entered: bool,
 }
 
-/// What a Leaf says: a rule and its bodies.
+/// What a Leaf says: a rule, how many of the root's last arguments are set
+/// aside, and the bodies.
 pub struct Found {
     pub rule: usize,
+    pub aside: u32,
     pub bodies: Vec<Vec<u32>>,
 }
 
@@ -125,12 +127,13 @@ impl Walk<'_> {
     fn leaf(&self, node: usize) -> Result<Found, Damaged> {
         let rule = self.field(node + 1)? as usize;
         let n = self.field(node + 2)? as usize;
-        if rule >= MAX_RULES || n > MAX_VARS {
+        let aside = self.field(node + 3)?;
+        if rule >= MAX_RULES || n > MAX_VARS || aside > self.root_count() {
             return Err(Damaged);
         }
         let mut counts = Vec::new();
         let mut bodies = Vec::new();
-        let mut at = node + 3;
+        let mut at = node + 4;
         for _ in 0..n {
             let place = self.place(self.field(at)?)?;
             let k = self.k(at + 1)?;
@@ -140,12 +143,19 @@ impl Walk<'_> {
             at += 2 + k;
         }
         if let Some(book) = self.book {
+            let rule = book.rules.get(rule).ok_or(Damaged)?;
+            let own = count(rule.left.words[0]);
             // As many counts as variables, and the same ones.
-            if book.rules.get(rule).map(|r| &r.counts) != Some(&counts) {
+            if rule.counts != counts || own + aside != self.root_count() {
                 return Err(Damaged);
             }
         }
-        Ok(Found { rule, bodies })
+        Ok(Found { rule, aside, bodies })
+    }
+
+    /// The count of the root's word, whatever its kind.
+    fn root_count(&self) -> u32 {
+        count(self.term.words[self.places[0].at])
     }
 
     fn switch(&mut self, node: usize) -> Result<Next, Damaged> {
@@ -213,23 +223,24 @@ impl Walk<'_> {
     }
 }
 
-/// The answer is 11, 14, 1, 13 or 0, and the rule is 0 unless it is 0.
+/// The answer is 11, 14, 1, 13 or 0; the rule and the number of arguments set
+/// aside are 0 unless it is 0.
 pub fn match_tree(
     tree: &[u32],
     term: &[u32],
     bodies: &mut [u32],
     lengths: &mut [u32; 16],
-) -> (Answer, u32) {
+) -> (Answer, u32, u32) {
     bodies.fill(0);
     lengths.fill(0);
-    let mut rule = 0;
+    let (mut rule, mut aside) = (0, 0);
     let answer = of((|| {
         let term = checked(term)?;
         check_length(tree)?;
         let found = walk(tree, &term, 0, None)?.ok_or(Answer::new(NO_RULE_FITS, 0))?;
         give_bodies(&found.bodies, bodies, lengths)?;
-        rule = found.rule as u32;
+        (rule, aside) = (found.rule as u32, found.aside);
         Ok(())
     })());
-    (answer, rule)
+    (answer, rule, aside)
 }

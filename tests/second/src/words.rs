@@ -7,6 +7,9 @@ pub const PATTERN: u32 = 3;
 
 pub const MAX_ID: u32 = 65_535;
 
+/// The most children a symbol has.
+pub const MAX_ARGUMENTS: u32 = 15;
+
 pub const fn word(kind: u32, count: u32, id: u32) -> u32 {
     kind * 16_777_216 + count * 65_536 + id
 }
@@ -40,7 +43,7 @@ pub const fn id(w: u32) -> u32 {
 /// Whether a word keeps to the table of kinds.
 pub fn in_table(w: u32) -> bool {
     match kind(w) {
-        SYMBOL => count(w) <= 15 && id(w) <= 1_023,
+        SYMBOL => count(w) <= MAX_ARGUMENTS && id(w) <= 1_023,
         ABSTRACTION => count(w) == 1 && id(w) == 0,
         VARIABLE => count(w) == 0 && id(w) >= 1,
         PATTERN => count(w) <= 4 && id(w) <= 15,

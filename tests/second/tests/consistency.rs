@@ -22,9 +22,45 @@ fn result(out: &[u32]) -> Vec<u32> {
     out[..Laid::of(out).end[0]].to_vec()
 }
 
+/// The term without the last `aside` arguments of its root.
+fn front(term: &[u32], aside: u32) -> Vec<u32> {
+    let root = node(term);
+    let kept = root.1.len() - aside as usize;
+    let mut out = Vec::new();
+    let w = if aside == 0 { root.0 } else { symbol(id(root.0), kept as u32) };
+    flat(&Node(w, root.1[..kept].to_vec()), &mut out);
+    out
+}
+
+/// The arguments of a rule's left side, and how many are set aside at a root.
+fn set_aside(words: &[u32], n: u32, root: u32) -> Option<u32> {
+    let own = book::read(words).unwrap().rules[n as usize].left.words[0];
+    let same = kind(root) == SYMBOL && id(root) == id(own);
+    (same && count(root) >= count(own)).then(|| count(root) - count(own))
+}
+
+/// Matching a rule is matching the front of the term with nothing set aside.
+fn rule_fits_front(words: &[u32], n: u32, term: &[u32]) -> Option<(u32, Vec<u32>, [u32; 16])> {
+    let (mut bodies, mut lengths) = (vec![1; 4_096], [1; 16]);
+    let (answer, aside) = match_rule(words, n, term, &mut bodies, &mut lengths);
+    assert!(answer.number <= 1);
+    let expected = set_aside(words, n, term[0]);
+    let fits = expected.is_some_and(|aside| {
+        let (mut bodies_2, mut lengths_2) = (vec![1; 4_096], [1; 16]);
+        let cut = front(term, aside);
+        let (answer_2, none) = match_rule(words, n, &cut, &mut bodies_2, &mut lengths_2);
+        assert_eq!((answer, none), (answer_2, 0));
+        assert_eq!((&bodies, lengths), (&bodies_2, lengths_2));
+        answer_2.number == 0
+    });
+    assert_eq!(fits, answer.number == 0);
+    assert_eq!(aside, if fits { expected.unwrap() } else { 0 });
+    fits.then_some((aside, bodies, lengths))
+}
+
 #[test]
 fn the_tree_finds_the_lowest_rule() {
-    let mut found = [0u64; 4];
+    let mut found = [0u64; 5];
     for seed in 0..rounds(15_000) {
         let mut rng = Rng::new(seed);
         let a = gen::alphabet(&mut rng);
@@ -37,30 +73,28 @@ fn the_tree_finds_the_lowest_rule() {
         for _ in 0..4 {
             let term = gen::any_term(&mut rng, &a, &book);
             let (mut bodies, mut lengths) = (vec![1; 4_096], [1; 16]);
-            let (answer, rule) = match_tree(&tree, &term, &mut bodies, &mut lengths);
+            let (answer, rule, aside) = match_tree(&tree, &term, &mut bodies, &mut lengths);
             if check_term(&term).number != 0 {
                 assert_eq!(answer, check_term(&term));
                 continue;
             }
-            let (mut bodies_2, mut lengths_2) = (vec![1; 4_096], [1; 16]);
-            let lowest = (0..book[0]).find(|&n| {
-                let answer = match_rule(&book, n, &term, &mut bodies_2, &mut lengths_2);
-                assert!(answer.number <= 1);
-                answer.number == 0
-            });
+            let lowest =
+                (0..book[0]).find_map(|n| rule_fits_front(&book, n, &term).map(|found| (n, found)));
             match lowest {
                 None => {
-                    assert_eq!((answer.number, rule), (1, 0), "seed {seed}");
+                    assert_eq!((answer.number, rule, aside), (1, 0, 0), "seed {seed}");
                     assert!(zero(&bodies) && zero(&lengths));
                     found[0] += 1;
                 }
-                Some(n) => {
-                    assert_eq!((answer.number, rule), (0, n), "seed {seed}");
+                Some((n, (aside_2, bodies_2, lengths_2))) => {
+                    assert_eq!((answer.number, rule, aside), (0, n, aside_2), "seed {seed}");
                     assert_eq!((&bodies, lengths), (&bodies_2, lengths_2), "seed {seed}");
                     found[1] += 1;
                     found[2] += u64::from(n > 0);
-                    // Match, then build, gives the term back.
+                    found[4] += u64::from(aside > 0);
+                    // Match, then build, gives the front of the term back.
                     let sum = lengths.iter().sum::<u32>() as usize;
+                    let term = front(&term, aside);
                     let mut out = vec![1; term.len()];
                     let answer = build_left(&book, n, &bodies[..sum], &lengths, &mut out);
                     assert_eq!((answer.number, &out), (0, &term), "seed {seed}");
@@ -68,7 +102,10 @@ fn the_tree_finds_the_lowest_rule() {
             }
         }
     }
-    println!("no rule {}, rule {} (not 0: {}), tree over {}", found[0], found[1], found[2], found[3]);
+    println!(
+        "no rule {}, rule {} (not 0: {}, some set aside: {}), tree over {}",
+        found[0], found[1], found[2], found[4], found[3]
+    );
     assert!(found[1] > found[0] / 4);
 }
 
@@ -97,8 +134,8 @@ fn build_then_match_gives_the_bodies_back() {
         }
         assert_eq!(answer.number, 0);
         let (mut bodies, mut found) = (vec![1; list.len()], [1; 16]);
-        let answer = match_rule(&words, n as u32, &result(&out), &mut bodies, &mut found);
-        assert_eq!((answer.number, bodies, found), (0, list, lengths), "seed {seed}");
+        let (answer, aside) = match_rule(&words, n as u32, &result(&out), &mut bodies, &mut found);
+        assert_eq!((answer.number, aside, bodies, found), (0, 0, list, lengths), "seed {seed}");
         done += 1;
     }
     println!("{done} built and matched");
@@ -176,15 +213,32 @@ fn is_term(n: &Node) -> Option<Vec<u32>> {
     (check_term(&words).number == 0).then_some(words)
 }
 
+/// The written part with the arguments set aside at its end: 18 if it can't
+/// take them.
+fn with_aside(new: Node, part: &[u32], aside: u32) -> Result<Node, Answer> {
+    if aside == 0 {
+        return Ok(new);
+    }
+    let sum = new.1.len() as u32 + aside;
+    if kind(new.0) != SYMBOL || sum > 15 {
+        return Err(Answer { number: 18, at: aside });
+    }
+    let arguments = node(part).1;
+    let kept = arguments.len() - aside as usize;
+    Ok(Node(symbol(id(new.0), sum), [new.1, arguments[kept..].to_vec()].concat()))
+}
+
 /// One step by the definitions: the lowest offset, the lowest rule.
-fn plain_step(words: &[u32], term: &[u32]) -> Option<Option<Vec<u32>>> {
+fn plain_step(words: &[u32], term: &[u32]) -> Option<Result<Vec<u32>, Answer>> {
+    let too_large = Answer { number: 15, at: 0 };
     let book = book::read(words).unwrap();
     let laid = Laid::of(term);
     for at in 0..term.len() {
         let part = &term[at..laid.end[at]];
         for (n, rule) in book.rules.iter().enumerate() {
             let (mut bodies, mut lengths) = (vec![0; part.len()], [0; 16]);
-            if match_rule(words, n as u32, part, &mut bodies, &mut lengths).number != 0 {
+            let (answer, aside) = match_rule(words, n as u32, part, &mut bodies, &mut lengths);
+            if answer.number != 0 {
                 continue;
             }
             let mut rest = &bodies[..];
@@ -194,11 +248,15 @@ fn plain_step(words: &[u32], term: &[u32]) -> Option<Option<Vec<u32>>> {
                 rest = &rest[length as usize..];
             }
             let new = write(&node(&rule.right.words), 0, &nodes);
+            let new = match with_aside(new, part, aside) {
+                Ok(new) => new,
+                Err(answer) => return Some(Err(answer)),
+            };
             let Some(new) = is_term(&new) else {
-                return Some(None);
+                return Some(Err(too_large));
             };
             let whole = [&term[..at], &new, &term[laid.end[at]..]].concat();
-            return Some((check_term(&whole).number == 0).then_some(whole));
+            return Some(if check_term(&whole).number == 0 { Ok(whole) } else { Err(too_large) });
         }
     }
     None
@@ -215,11 +273,15 @@ fn simplifying_is_the_steps_of_the_definition() {
         if rng.chance(1, 10) {
             let case = gen::growth_case(&mut rng);
             (words, term) = (case.book, case.term);
+        } else if rng.chance(1, 3) {
+            let (rules, made) = gen::aside_rules(&mut rng);
+            (words, term) = (gen::book_words(&rules), made);
         } else {
             words = gen::book(&mut rng, &a);
             term = gen::planted(&mut rng, &a, &words);
         }
-        if check_term(&term).number != 0 || term.len() > 600 {
+        let most = if rng.chance(1, 8) { 3_000 } else { 300 };
+        if check_term(&term).number != 0 || term.len() > most {
             continue;
         }
         let mut tree = vec![0; 16_384];
@@ -235,12 +297,18 @@ fn simplifying_is_the_steps_of_the_definition() {
         let root_answer = rewrite_root(&words, &tree, &term, &mut root);
 
         let mut made = 0;
-        let number = loop {
+        let reached = |number| Answer { number, at: 0 };
+        let expected = loop {
             match plain_step(&words, &term) {
-                None => break 0,
-                Some(_) if made == u32::from(budget) => break 2,
-                Some(None) => break 15,
-                Some(Some(new)) => {
+                None => break reached(0),
+                Some(_) if made == u32::from(budget) => break reached(2),
+                Some(Err(refused)) => {
+                    if made == 0 && ![1, 15].contains(&root_answer.number) {
+                        assert_eq!(root_answer, refused, "seed {seed}");
+                    }
+                    break refused;
+                }
+                Some(Ok(new)) => {
                     if made == 0 && root_answer.number == 0 {
                         assert_eq!(result(&root), new, "seed {seed}");
                     }
@@ -249,14 +317,14 @@ fn simplifying_is_the_steps_of_the_definition() {
                 }
             }
         };
-        assert_eq!((answer, steps), (Answer { number, at: 0 }, made), "seed {seed}");
-        if number == 15 {
+        assert_eq!((answer, steps), (expected, made), "seed {seed}");
+        if expected.number >= 10 {
             assert!(zero(&out));
         } else {
             assert_eq!(out[..term.len()], term, "seed {seed}");
             assert!(zero(&out[term.len()..]));
         }
-        *answers.entry(number).or_insert(0) += 1;
+        *answers.entry(expected.number).or_insert(0) += 1;
         steps_made += made;
     }
     println!("answers {answers:?}, {steps_made} steps");
@@ -357,7 +425,7 @@ fn every_operation_on_anything() {
     let mut seen = |name: &'static str, answer: Answer, allowed: &[u32], clear: bool| {
         *answers.entry((name, answer.number)).or_insert(0u64) += 1;
         assert!(allowed.contains(&answer.number), "{name} {answer:?}");
-        if ![10, 11, 12, 14, 16].contains(&answer.number) {
+        if ![10, 11, 12, 14, 16, 18].contains(&answer.number) {
             assert_eq!(answer.at, 0);
         }
         if answer.number == 1 || answer.number >= 10 {
@@ -371,7 +439,8 @@ fn every_operation_on_anything() {
 
         let c = gen::match_rule_case(&mut rng);
         let (mut bodies, mut lengths) = (vec![1; c.bodies_length], [1; 16]);
-        let answer = match_rule(&c.book, c.number, &c.term, &mut bodies, &mut lengths);
+        let (answer, aside) = match_rule(&c.book, c.number, &c.term, &mut bodies, &mut lengths);
+        assert!(aside == 0 || answer.number == 0);
         seen("match_rule", answer, &[0, 1, 11, 12, 13, 16], zero(&bodies) && zero(&lengths));
 
         let c = gen::build_left_case(&mut rng);
@@ -386,19 +455,19 @@ fn every_operation_on_anything() {
 
         let c = gen::match_tree_case(&mut rng);
         let (mut bodies, mut lengths) = (vec![1; c.bodies_length], [1; 16]);
-        let (answer, rule) = match_tree(&c.tree, &c.term, &mut bodies, &mut lengths);
-        assert!(rule == 0 || answer.number == 0);
+        let (answer, rule, aside) = match_tree(&c.tree, &c.term, &mut bodies, &mut lengths);
+        assert!(answer.number == 0 || (rule, aside) == (0, 0));
         seen("match_tree", answer, &[0, 1, 11, 13, 14], zero(&bodies) && zero(&lengths));
 
         let c = if rng.chance(1, 5) { gen::growth_case(&mut rng) } else { gen::rewrite_case(&mut rng) };
         let mut out = vec![1; c.out_length];
         let answer = rewrite_root(&c.book, &c.tree, &c.term, &mut out);
-        seen("rewrite_root", answer, &[0, 1, 11, 12, 13, 14, 15], zero(&out));
+        seen("rewrite_root", answer, &[0, 1, 11, 12, 13, 14, 15, 18], zero(&out));
         let mut out = vec![1; c.out_length];
         let (answer, steps) = simplify(&c.book, &c.tree, &c.term, c.budget, &mut out);
         assert!(steps <= u32::from(c.budget));
         assert!(answer.number != 2 || steps == u32::from(c.budget));
-        seen("simplify", answer, &[0, 2, 11, 12, 13, 14, 15], zero(&out));
+        seen("simplify", answer, &[0, 2, 11, 12, 13, 14, 15, 18], zero(&out));
 
         // Words and bytes with no form at all.
         let noise: Vec<u32> = (0..rng.below(30)).map(|_| gen::odd_word(&mut rng)).collect();
@@ -431,6 +500,7 @@ mod plain_compiler {
         entered: Vec<bool>,
         /// Tags of occurrences (numbers in prefix order) with their lists.
         tests: Vec<Plain>,
+        aside: u32,
     }
 
     /// Occurrences are tagged by their prefix number in the pattern's words.
@@ -513,6 +583,24 @@ mod plain_compiler {
         a == b
     }
 
+    /// The cases of the root: by symbol, then by count up to 15.
+    fn all_counts(heads: &[u32]) -> Vec<u32> {
+        let mut ids: Vec<u32> = Vec::new();
+        for &h in heads {
+            if !ids.contains(&id(h)) {
+                ids.push(id(h));
+            }
+        }
+        let mut all = Vec::new();
+        for i in ids {
+            let least = heads.iter().filter(|&&h| id(h) == i).map(|&h| count(h)).min().unwrap();
+            for c in least..16 {
+                all.push(symbol(i, c));
+            }
+        }
+        all
+    }
+
     enum Tree {
         /// A node's words and, by the word to hold the address, its subtrees.
         Inner(Vec<u32>, Vec<(usize, Tree)>),
@@ -533,6 +621,9 @@ mod plain_compiler {
                     heads.push(r.at[p].as_ref().unwrap().0);
                 }
             }
+            if p == 0 {
+                heads = all_counts(&heads);
+            }
             words = vec![2, p as u32, heads.len() as u32];
             let without: Vec<Row> = rows.iter().filter(|r| !open(r, p)).cloned().collect();
             for &h in &heads {
@@ -541,13 +632,15 @@ mod plain_compiler {
                     let mut new = r.clone();
                     if open(r, p) {
                         let n = r.at[p].clone().unwrap();
-                        if n.0 != h {
+                        let front = p == 0 && id(n.0) == id(h) && count(n.0) < count(h);
+                        if n.0 != h && !front {
                             continue;
                         }
+                        new.aside += count(h) - count(n.0);
                         new.at.extend(n.1.into_iter().map(Some));
-                    } else {
-                        new.at.extend((0..count(h)).map(|_| None));
                     }
+                    let places = r.at.len() + count(h) as usize;
+                    new.at.resize(places, None);
                     new.entered[p] = true;
                     new.entered.resize(new.at.len(), false);
                     case.push(new);
@@ -570,7 +663,7 @@ mod plain_compiler {
             words.extend([0, 0]);
             subtrees = vec![(words.len() - 2, yes), (words.len() - 1, no)];
         } else {
-            words = vec![1, first.rule, first.vars];
+            words = vec![1, first.rule, first.vars, first.aside];
             for x in 0..first.vars {
                 // First in prefix order is the lowest tag.
                 let n = first.at.iter().flatten().filter(|n| is_pattern(n) && id_of(n) == x);
@@ -626,6 +719,7 @@ mod plain_compiler {
                 at: vec![Some(root)],
                 entered: vec![false],
                 tests,
+                aside: 0,
             });
         }
         let t = tree(rows, &mut 16_384)?;

@@ -122,15 +122,15 @@ fn books() {
 fn order_of_refusals() {
     let good = one(1, &[symbol(3, 1), X], &[X]);
     let (mut b, mut l) = ([0; 4], [0; 16]);
-    assert_eq!(match_rule(&[], 9, &[], &mut b, &mut l), a(12, 0));
-    assert_eq!(match_rule(&good, 9, &[], &mut b, &mut l), a(16, 9));
-    assert_eq!(match_rule(&good, u32::MAX, &[], &mut b, &mut l), a(16, u32::MAX));
-    assert_eq!(match_rule(&good, 0, &[], &mut b, &mut l), a(11, 0));
+    assert_eq!(match_rule(&[], 9, &[], &mut b, &mut l), (a(12, 0), 0));
+    assert_eq!(match_rule(&good, 9, &[], &mut b, &mut l), (a(16, 9), 0));
+    assert_eq!(match_rule(&good, u32::MAX, &[], &mut b, &mut l), (a(16, u32::MAX), 0));
+    assert_eq!(match_rule(&good, 0, &[], &mut b, &mut l), (a(11, 0), 0));
     let long = vec![0; 16_385];
-    assert_eq!(match_tree(&long, &[], &mut b, &mut l), (a(11, 0), 0));
-    assert_eq!(match_tree(&long, &[S7], &mut b, &mut l), (a(14, 16_384), 0));
-    assert_eq!(match_tree(&long[1..], &[S7], &mut b, &mut l), (a(1, 0), 0));
-    assert_eq!(match_tree(&[], &[S7], &mut b, &mut l), (a(14, 0), 0));
+    assert_eq!(match_tree(&long, &[], &mut b, &mut l), (a(11, 0), 0, 0));
+    assert_eq!(match_tree(&long, &[S7], &mut b, &mut l), (a(14, 16_384), 0, 0));
+    assert_eq!(match_tree(&long[1..], &[S7], &mut b, &mut l), (a(1, 0), 0, 0));
+    assert_eq!(match_tree(&[], &[S7], &mut b, &mut l), (a(14, 0), 0, 0));
     assert_eq!(rewrite_root(&[], &long, &[], &mut b), a(12, 0));
     assert_eq!(rewrite_root(&good, &long, &[], &mut b), a(11, 0));
     assert_eq!(rewrite_root(&good, &long, &[S7], &mut b), a(14, 16_384));
@@ -188,15 +188,15 @@ fn outputs_exact_and_one_short() {
     let term = [symbol(2, 2), symbol(4, 1), S7, S7];
     let mut lengths = [5; 16];
     let mut bodies = [5; 4];
-    assert_eq!(match_rule(&book, 0, &term, &mut bodies, &mut lengths), a(0, 0));
+    assert_eq!(match_rule(&book, 0, &term, &mut bodies, &mut lengths), (a(0, 0), 0));
     assert_eq!((bodies, lengths[..3].to_vec()), ([symbol(4, 1), S7, S7, 0], vec![2, 1, 0]));
-    assert_eq!(match_rule(&book, 0, &term, &mut bodies[..3], &mut lengths), a(0, 0));
-    assert_eq!(match_rule(&book, 0, &term, &mut bodies[..2], &mut lengths), a(13, 0));
+    assert_eq!(match_rule(&book, 0, &term, &mut bodies[..3], &mut lengths), (a(0, 0), 0));
+    assert_eq!(match_rule(&book, 0, &term, &mut bodies[..2], &mut lengths), (a(13, 0), 0));
     assert_eq!((bodies[..2].to_vec(), lengths), (vec![0, 0], [0; 16]));
 
     let tree = gen::compiled(&book);
-    assert_eq!(match_tree(&tree, &term, &mut bodies[..3], &mut lengths), (a(0, 0), 0));
-    assert_eq!(match_tree(&tree, &term, &mut bodies[..2], &mut lengths), (a(13, 0), 0));
+    assert_eq!(match_tree(&tree, &term, &mut bodies[..3], &mut lengths), (a(0, 0), 0, 0));
+    assert_eq!(match_tree(&tree, &term, &mut bodies[..2], &mut lengths), (a(13, 0), 0, 0));
     assert_eq!((bodies[..2].to_vec(), lengths), (vec![0, 0], [0; 16]));
 
     let mut out = vec![1; tree.len() + 1];
@@ -339,64 +339,71 @@ fn damage() {
     let s = symbol(3, 1);
     let term = [s, LAMBDA, variable(1)];
     let mut walk = |tree: &[u32]| match_tree(tree, &term, &mut b, &mut l);
-    let none = |at| (a(14, at), 0);
+    let none = |at| (a(14, at), 0, 0);
     assert_eq!(walk(&[5]), none(0));
     assert_eq!(walk(&[1]), none(0));
     assert_eq!(walk(&[1, 0]), none(0));
-    assert_eq!(walk(&[1, 63, 0]), (a(0, 0), 63));
-    assert_eq!(walk(&[1, 64, 0]), none(0));
-    assert_eq!(walk(&[1, 0, 1, 0]), none(0));
-    assert_eq!(walk(&[1, 0, 1, 0, 0]), (a(0, 0), 0));
-    assert_eq!(walk(&[1, 0, 1, 1, 0]), none(0));
-    assert_eq!(walk(&[1, 0, 1, 0, 1, 1]), none(0));
-    let twice = [vec![1, 0, 17], [0, 0].repeat(17)].concat();
-    assert_eq!(walk(&twice), none(0));
+    assert_eq!(walk(&[1, 0, 0]), none(0));
+    assert_eq!(walk(&[1, 63, 0, 0]), (a(0, 0), 63, 0));
+    assert_eq!(walk(&[1, 64, 0, 0]), none(0));
+    assert_eq!(walk(&[1, 0, 1, 0, 0]), none(0));
+    assert_eq!(walk(&[1, 0, 1, 0, 0, 0]), (a(0, 0), 0, 0));
+    assert_eq!(walk(&[1, 0, 1, 0, 1, 0]), none(0));
+    assert_eq!(walk(&[1, 0, 1, 0, 0, 1, 1]), none(0));
+    let all = |n: usize| [vec![1, 0, n as u32, 0], [0, 0].repeat(n)].concat();
+    assert_eq!(walk(&all(16)), (a(0, 0), 0, 0));
+    assert_eq!(walk(&all(17)), none(0));
+    // The root has one child.
+    assert_eq!(walk(&[1, 5, 0, 1]), (a(0, 0), 5, 1));
+    assert_eq!(walk(&[1, 5, 0, 2]), none(0));
+    assert_eq!(walk(&[1, 5, 0, u32::MAX]), none(0));
     // Switch: the default and the taken case are judged, others aren't.
-    assert_eq!(walk(&[2, 0, 0, 4, 0]), (a(1, 0), 0));
+    assert_eq!(walk(&[2, 0, 0, 4, 0]), (a(1, 0), 0, 0));
     assert_eq!(walk(&[2, 0, 0, 0, 0]), none(0));
     assert_eq!(walk(&[2, 0, 0, 5, 0]), none(0));
     assert_eq!(walk(&[2, 1, 0, 4, 0]), none(0));
     assert_eq!(walk(&[2, 0, u32::MAX, 4, 0]), none(0));
-    assert_eq!(walk(&[2, 0, 1, 9, 99, 6, 0]), (a(1, 0), 0));
+    assert_eq!(walk(&[2, 0, 1, 9, 99, 6, 0]), (a(1, 0), 0, 0));
     assert_eq!(walk(&[2, 0, 1, s, 99, 6, 0]), none(0));
-    assert_eq!(walk(&[2, 0, 1, s, 6, 99, 0]), (a(1, 0), 0));
+    assert_eq!(walk(&[2, 0, 1, s, 6, 99, 0]), (a(1, 0), 0, 0));
     // The first of two cases with one head.
-    assert_eq!(walk(&[2, 0, 2, s, 8, s, 9, 9, 0, 5]), (a(1, 0), 0));
+    assert_eq!(walk(&[2, 0, 2, s, 8, s, 9, 9, 0, 5]), (a(1, 0), 0, 0));
     // A case at a place already entered; the default there is right.
     assert_eq!(walk(&[2, 0, 1, s, 6, 6, 2, 0, 1, s, 12, 12, 0]), none(6));
-    assert_eq!(walk(&[2, 0, 1, s, 6, 6, 2, 0, 1, 9, 12, 12, 0]), (a(1, 0), 0));
+    assert_eq!(walk(&[2, 0, 1, s, 6, 6, 2, 0, 1, 9, 12, 12, 0]), (a(1, 0), 0, 0));
     // Down to the variable under the abstraction, and into it.
     let down = |rest: &[u32]| {
         let mut tree = vec![2, 0, 1, s, 6, 6, 2, 1, 1, LAMBDA, 12, 12];
         tree.extend(rest);
         tree
     };
-    assert_eq!(walk(&down(&[2, 2, 1, variable(1), 18, 18, 0])), (a(1, 0), 0));
+    assert_eq!(walk(&down(&[2, 2, 1, variable(1), 18, 18, 0])), (a(1, 0), 0, 0));
     assert_eq!(walk(&down(&[3, 2, 0, 17, 18, 0, 5])), none(18));
-    assert_eq!(walk(&down(&[3, 2, 0, 17, 18, 5, 0])), (a(1, 0), 0));
-    assert_eq!(walk(&down(&[3, 2, 1, 1, 18, 19, 0, 5])), (a(1, 0), 0));
+    assert_eq!(walk(&down(&[3, 2, 0, 17, 18, 5, 0])), (a(1, 0), 0, 0));
+    assert_eq!(walk(&down(&[3, 2, 1, 1, 18, 19, 0, 5])), (a(1, 0), 0, 0));
     assert_eq!(walk(&down(&[3, 2, 1, 2, 18, 19, 0, 5])), none(12));
     assert_eq!(walk(&down(&[3, 2, 2, 1, 1, 19, 19, 0])), none(12));
     assert_eq!(walk(&down(&[3, 2, 5, 1, 1, 1, 1, 1, 22, 22, 0])), none(12));
     assert_eq!(walk(&down(&[3, 2, 1, 1, 18])), none(12));
-    assert_eq!(walk(&down(&[4, 2, 2, 1, 1, 1, 20, 21, 0, 5])), (a(1, 0), 0));
-    assert_eq!(walk(&down(&[4, 2, 2, 0, 18, 19, 5, 0])), (a(1, 0), 0));
+    assert_eq!(walk(&down(&[4, 2, 2, 1, 1, 1, 20, 21, 0, 5])), (a(1, 0), 0, 0));
+    assert_eq!(walk(&down(&[4, 2, 2, 0, 18, 19, 5, 0])), (a(1, 0), 0, 0));
     assert_eq!(walk(&down(&[4, 2, 3, 0, 18, 19, 5, 0])), none(12));
     // A Leaf's part without a body; damage before 13.
-    assert_eq!(walk(&down(&[1, 0, 1, 2, 0])), none(12));
-    assert_eq!(walk(&down(&[1, 0, 1, 2, 1, 1])), (a(0, 0), 0));
-    assert_eq!(match_tree(&down(&[1, 0, 2, 1, 0, 2, 0]), &term, &mut [], &mut l), none(12));
-    assert_eq!(match_tree(&down(&[1, 0, 1, 1, 0]), &term, &mut [], &mut l), (a(13, 0), 0));
+    assert_eq!(walk(&down(&[1, 0, 1, 0, 2, 0])), none(12));
+    assert_eq!(walk(&down(&[1, 0, 1, 0, 2, 1, 1])), (a(0, 0), 0, 0));
+    assert_eq!(match_tree(&down(&[1, 0, 2, 0, 1, 0, 2, 0]), &term, &mut [], &mut l), none(12));
+    assert_eq!(match_tree(&down(&[1, 0, 1, 0, 1, 0]), &term, &mut [], &mut l), (a(13, 0), 0, 0));
 
-    // With a book: rule, n and counts must fit it.
+    // With a book: rule, n, counts and what is set aside must fit it.
     let book = one(1, &[s, X], &[X]);
     let mut out = [0; 9];
-    assert_eq!(rewrite_root(&book, &[1, 0, 1, 0, 0], &term, &mut out), a(0, 0));
+    assert_eq!(rewrite_root(&book, &[1, 0, 1, 0, 0, 0], &term, &mut out), a(0, 0));
     assert_eq!(out[..4], [s, LAMBDA, variable(1), 0]);
-    assert_eq!(rewrite_root(&book, &[1, 1, 1, 0, 0], &term, &mut out), a(14, 0));
-    assert_eq!(rewrite_root(&book, &[1, 0, 0], &term, &mut out), a(14, 0));
-    assert_eq!(rewrite_root(&book, &[1, 0, 2, 0, 0, 0, 0], &term, &mut out), a(14, 0));
-    assert_eq!(rewrite_root(&book, &down(&[1, 0, 1, 2, 1, 1]), &term, &mut out), a(14, 12));
+    assert_eq!(rewrite_root(&book, &[1, 1, 1, 0, 0, 0], &term, &mut out), a(14, 0));
+    assert_eq!(rewrite_root(&book, &[1, 0, 0, 0], &term, &mut out), a(14, 0));
+    assert_eq!(rewrite_root(&book, &[1, 0, 2, 0, 0, 0, 0, 0], &term, &mut out), a(14, 0));
+    assert_eq!(rewrite_root(&book, &[1, 0, 1, 1, 0, 0], &term, &mut out), a(14, 0));
+    assert_eq!(rewrite_root(&book, &down(&[1, 0, 1, 0, 2, 1, 1]), &term, &mut out), a(14, 12));
     assert_eq!(out, [0; 9]);
 }
 

@@ -41,7 +41,7 @@ fn tree(book: &[u32]) -> Vec<u32> {
 #[test]
 fn book_a_prints() {
     let input = format!("{BOOK_A}term=s2.2 s3.1 l s7.0 s7.0\nterm=s3.1 l s4.1 s4.1 v1\n");
-    let printed = "book=1\nrules=3\ntree=51\nterm=0\nanswer=0\nsteps=2\nresult=s7.0\n\
+    let printed = "book=1\nrules=3\ntree=725\nterm=0\nanswer=0\nsteps=2\nresult=s7.0\n\
 term=1\nanswer=0\nsteps=2\nresult=s4.1 s4.1 s3.1 l v1\n";
     assert_eq!(String::from_utf8(run_file(input.as_bytes())).unwrap(), printed);
 }
@@ -49,13 +49,40 @@ term=1\nanswer=0\nsteps=2\nresult=s4.1 s4.1 s3.1 l v1\n";
 #[test]
 fn book_a_tree() {
     let tree = tree(&book(BOOK_A));
-    assert_eq!(tree.len(), 51);
-    assert_eq!(tree[..8], [2, 0, 2, 131_074, 8, 65_539, 20, 50]);
-    // The rest, worked out by hand.
-    assert_eq!(tree[8..20], [4, 1, 2, 0, 14, 19, 1, 0, 1, 1, 0, 0]);
-    assert_eq!(tree[20..31], [2, 1, 1, 16_842_752, 26, 49, 3, 2, 0, 31, 36]);
-    assert_eq!(tree[31..42], [1, 1, 1, 2, 0, 2, 2, 1, 65_540, 42, 48]);
-    assert_eq!(tree[42..], [1, 2, 1, 3, 1, 1, 0, 0, 0]);
+    // By hand: a root of 3 + 2 x 29 + 1 words; 14 cases for s2.2 to s2.15 of
+    // 6 + 6 + 1; 15 for s3.1 to s3.15 of 6 + 5 + 6 + 6 + 7 + 1 + 1; a Fail.
+    let mut fails = 0;
+    let mut expected = vec![2, 0, 29];
+    for c in 2..=15 {
+        expected.extend([65_536 * c + 2, 62 + 13 * (c - 2)]);
+    }
+    for c in 1..=15 {
+        expected.extend([65_536 * c + 3, 244 + 32 * (c - 1)]);
+    }
+    expected.push(724);
+    assert_eq!(expected.len(), 62);
+    for aside in 0..=13 {
+        let at = expected.len() as u32;
+        expected.extend([4, 1, 2, 0, at + 6, at + 12]);
+        expected.extend([1, 0, 1, aside, 1, 0]);
+        expected.push(0);
+        fails += 1;
+    }
+    // Behind the root's children, so the abstraction's child is 1 + c.
+    for c in 1..=15 {
+        let at = expected.len() as u32;
+        expected.extend([2, 1, 1, 16_842_752, at + 6, at + 31]);
+        expected.extend([3, c + 1, 0, at + 11, at + 17]);
+        expected.extend([1, 1, 1, c - 1, c + 1, 0]);
+        expected.extend([2, c + 1, 1, 65_540, at + 23, at + 30]);
+        expected.extend([1, 2, 1, c - 1, c + 2, 1, 1]);
+        expected.extend([0, 0]);
+        fails += 2;
+    }
+    expected.push(0);
+    assert_eq!(expected.len(), 725);
+    assert_eq!(fails + 1, 45);
+    assert_eq!(tree, expected);
 }
 
 #[test]
@@ -82,12 +109,13 @@ fn p1_to_p10() {
     for (n, (book, text, expected)) in table.iter().enumerate() {
         let t = term(text);
         let (mut bodies, mut lengths) = ([9; 20], [9; 16]);
-        let (answer, rule) = match_tree(&tree(book), &t, &mut bodies, &mut lengths);
+        let (answer, rule, aside) = match_tree(&tree(book), &t, &mut bodies, &mut lengths);
+        assert_eq!(aside, 0);
         let Some((number, body)) = expected else {
             assert_eq!((answer.number, rule), (1, 0), "P{}", n + 1);
             assert_eq!((bodies, lengths), ([0; 20], [0; 16]));
             for number in 0..book[0] {
-                assert_eq!(match_rule(book, number, &t, &mut bodies, &mut lengths).number, 1);
+                assert_eq!(match_rule(book, number, &t, &mut bodies, &mut lengths).0.number, 1);
             }
             continue;
         };
@@ -99,10 +127,10 @@ fn p1_to_p10() {
         assert_eq!((answer.number, answer.at, rule), (0, 0, *number), "P{}", n + 1);
         assert_eq!((bodies, lengths), (expected_bodies, expected_lengths));
         for lower in 0..*number {
-            assert_eq!(match_rule(book, lower, &t, &mut bodies, &mut lengths).number, 1);
+            assert_eq!(match_rule(book, lower, &t, &mut bodies, &mut lengths).0.number, 1);
         }
         let answer = match_rule(book, *number, &t, &mut bodies, &mut lengths);
-        assert_eq!(answer, Answer { number: 0, at: 0 });
+        assert_eq!(answer, (Answer { number: 0, at: 0 }, 0));
         assert_eq!((bodies, lengths), (expected_bodies, expected_lengths));
     }
 }
@@ -158,7 +186,8 @@ fn steps_and_answers_of_the_program() {
 rule=1\nvars=0\nleft=s3.0\nright=s3.0\nterm=s1.1 s7.0\nterm=s4.1 s3.0\n";
     let printed = String::from_utf8(run_file(text.as_bytes())).unwrap();
     // After n steps 1 + (2^(n+1) - 1) words: 2,048 after 10, 4,096 after 11.
-    let expected = "book=1\nrules=2\ntree=17\nterm=0\nanswer=15\nsteps=11\nresult=-\n\
+    // A root of 3 + 2 x (15 + 16) + 1, Leafs of 6 and of 4 words, a Fail.
+    let expected = "book=1\nrules=2\ntree=221\nterm=0\nanswer=15\nsteps=11\nresult=-\n\
 term=1\nanswer=2\nsteps=1000\nresult=s4.1 s3.0\n";
     assert_eq!(printed, expected);
 }
