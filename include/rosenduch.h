@@ -17,9 +17,19 @@
  *     14  damaged tree: at is the address of its node
  *     15  the term that is built or rewritten is over 4,096 words, nesting 64 or id 65,535: at is 0
  *     16  no such rule: at is the rule asked for
+ *     18  what a rule writes cannot take the arguments set aside: at is their number
  *
- * With 0, 1 and 2, at is 0. Where several hold, the first of 10, 12, 16, 11, 14, 1, 15, 13 is answered; in simplifying, an earlier step's
+ * With 0, 1 and 2, at is 0. Where several hold, the first of 10, 12, 16, 11, 14, 1, 18, 15, 13 is answered; in simplifying, an earlier step's
  * refusal comes before a later one's.
+ *
+ * A rule is for a front part of the arguments: at the root of a match, a left side with b arguments fits a symbol with a arguments where a is at
+ * least b, and the last a - b are set aside. Inside a left side the counts are equal. What the rule writes gets the arguments set aside at its
+ * end; for that its root is to be a symbol and to have at most 15 arguments together with them, else the answer is 18. By a rule with the left
+ * side `s2.1 m0.0` the term `s2.3 s7.0 v1 v2` is rewritten with v1 and v2 set aside:
+ *
+ *     right=s4.2 m0.0 s9.0    to s4.4 s7.0 s9.0 v1 v2
+ *     right=m0.0              to s7.2 v1 v2, for m0.0 is s7.0
+ *     right=l m0.0            18 at 2: an abstraction takes no arguments
  *
  * Every input is taken, whole or damaged, and every call ends. A lent output is always written to its end: after 1 and after a refusal (10
  * and up) it is zero, else it is zero behind the result. A word of a result may be zero too (the token s0.0), so a term's end is told by the
@@ -60,15 +70,16 @@ uint32_t rosenduch_check_term(const uint32_t *term, size_t term_len, size_t *at)
 uint32_t rosenduch_check_book(const uint32_t *book, size_t book_len, size_t *at);
 
 /*
- * Matches a rule of the book, counted from 0, against the term. Where it fits, bodies gets the body of each variable, in variable order, and
- * lengths the length of each, 0 for an unused variable. Answers 0, 1, 11, 12, 13 or 16.
+ * Matches a rule of the book, counted from 0, against the term. Where it fits, bodies gets the body of each variable, in variable order,
+ * lengths the length of each, 0 for an unused variable, and aside the number of arguments set aside; else aside is 0. Answers 0, 1, 11, 12, 13
+ * or 16.
  */
 uint32_t rosenduch_match_rule(const uint32_t *book, size_t book_len, uint32_t rule, const uint32_t *term, size_t term_len,
-                              uint32_t *bodies, size_t bodies_len, uint32_t lengths[16], size_t *at);
+                              uint32_t *bodies, size_t bodies_len, uint32_t lengths[16], uint32_t *aside, size_t *at);
 
 /*
- * Builds the left side of a rule of the book from the bodies of its variables, given as match_rule gives them. out gets the term. Answers 0,
- * 11, 12, 13, 15 or 16.
+ * Builds the left side of a rule of the book from the bodies of its variables, given as match_rule gives them. out gets the term; from a match
+ * it is the term that was matched, without the arguments set aside. Answers 0, 11, 12, 13, 15 or 16.
  */
 uint32_t rosenduch_build_left(const uint32_t *book, size_t book_len, uint32_t rule, const uint32_t *bodies, size_t bodies_len,
                               const uint32_t lengths[16], uint32_t *out, size_t out_len, size_t *at);
@@ -77,20 +88,23 @@ uint32_t rosenduch_build_left(const uint32_t *book, size_t book_len, uint32_t ru
 uint32_t rosenduch_compile(const uint32_t *book, size_t book_len, uint32_t *out, size_t out_len, uint32_t *words, size_t *at);
 
 /*
- * Matches a term by a tree. Where a rule fits, rule gets its number, and bodies and lengths what match_rule gives; else rule is 0. The tree is
- * taken up to 16,384 words; a compiled one may have zeros behind it. Answers 0, 1, 11, 13 or 14.
+ * Matches a term by a tree. Where a rule fits, rule gets its number, and bodies, lengths and aside what match_rule gives; else rule and aside
+ * are 0. The tree is taken up to 16,384 words; a compiled one may have zeros behind it. Answers 0, 1, 11, 13 or 14.
  */
 uint32_t rosenduch_match_tree(const uint32_t *tree, size_t tree_len, const uint32_t *term, size_t term_len, uint32_t *bodies,
-                              size_t bodies_len, uint32_t lengths[16], uint32_t *rule, size_t *at);
+                              size_t bodies_len, uint32_t lengths[16], uint32_t *rule, uint32_t *aside, size_t *at);
 
-/* Rewrites a term at its root by the rule of the book that the tree names. out gets the new term. Answers 0, 1, 11, 12, 13, 14 or 15. */
+/*
+ * Rewrites a term at its root by the rule of the book that the tree names. out gets the new term, the arguments set aside at its end. Answers 0,
+ * 1, 11, 12, 13, 14, 15 or 18.
+ */
 uint32_t rosenduch_rewrite_root(const uint32_t *book, size_t book_len, const uint32_t *tree, size_t tree_len, const uint32_t *term,
                                 size_t term_len, uint32_t *out, size_t out_len, size_t *at);
 
 /*
  * Simplifies a term: rewrites at the lowest offset where the tree names a rule, until there is none or the budget of steps is used. out gets
- * the term so far, and steps the number of steps made; after a refusal steps are those completed before it. Answers 0, 2, 11, 12, 13, 14 or
- * 15.
+ * the term so far, and steps the number of steps made; after a refusal steps are those completed before it. Answers 0, 2, 11, 12, 13, 14,
+ * 15 or 18.
  */
 uint32_t rosenduch_simplify(const uint32_t *book, size_t book_len, const uint32_t *tree, size_t tree_len, const uint32_t *term,
                             size_t term_len, uint16_t budget, uint32_t *out, size_t out_len, uint16_t *steps, size_t *at);

@@ -17,6 +17,9 @@ pub const NO_FIT: u32 = 1;
 /// The budget is used and a rule still fits.
 pub const BUDGET_USED: u32 = 2;
 
+/// What a rule writes cannot take the arguments set aside: a refusal, whose place is their number.
+pub const CANNOT_TAKE: u32 = 18;
+
 /// A refusal: its number, from 10 up, and its place.
 #[derive(Clone, Copy, Debug, PartialEq, Eq)]
 pub struct Refused {
@@ -34,6 +37,7 @@ impl fmt::Display for Refused {
             14 => "damaged tree",
             15 => "the new term is over a limit",
             16 => "no such rule",
+            CANNOT_TAKE => "what is written cannot take the arguments set aside",
             _ => "no number of document 01",
         };
         write!(f, "{meaning} (number {}, at {})", self.number, self.at)

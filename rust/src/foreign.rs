@@ -17,6 +17,7 @@ extern "C" {
         bodies: *mut u32,
         bodies_len: usize,
         lengths: *mut [u32; 16],
+        aside: *mut u32,
         at: *mut usize,
     ) -> u32;
     fn rosenduch_build_left(
@@ -40,6 +41,7 @@ extern "C" {
         bodies_len: usize,
         lengths: *mut [u32; 16],
         rule: *mut u32,
+        aside: *mut u32,
         at: *mut usize,
     ) -> u32;
     fn rosenduch_rewrite_root(
@@ -90,11 +92,24 @@ pub fn check_book(book: &[u32]) -> Answer {
     answer(|at| unsafe { rosenduch_check_book(book.as_ptr(), book.len(), at) })
 }
 
-/// Matches one rule of a book: 0, 1, 11, 12, 13 or 16.
-pub fn match_rule(book: &[u32], rule: u32, term: &[u32], bodies: &mut [u32], lengths: &mut [u32; 16]) -> Answer {
-    answer(|at| unsafe {
-        rosenduch_match_rule(book.as_ptr(), book.len(), rule, term.as_ptr(), term.len(), bodies.as_mut_ptr(), bodies.len(), lengths, at)
-    })
+/// Matches one rule of a book, with the number of arguments set aside: 0, 1, 11, 12, 13 or 16.
+pub fn match_rule(book: &[u32], rule: u32, term: &[u32], bodies: &mut [u32], lengths: &mut [u32; 16]) -> (Answer, u32) {
+    let mut aside = 0;
+    let answer = answer(|at| unsafe {
+        rosenduch_match_rule(
+            book.as_ptr(),
+            book.len(),
+            rule,
+            term.as_ptr(),
+            term.len(),
+            bodies.as_mut_ptr(),
+            bodies.len(),
+            lengths,
+            &mut aside,
+            at,
+        )
+    });
+    (answer, aside)
 }
 
 /// Builds a rule's left side from bodies: 0, 11, 12, 13, 15 or 16.
@@ -111,9 +126,9 @@ pub fn compile(book: &[u32], out: &mut [u32]) -> (Answer, u32) {
     (answer, words)
 }
 
-/// Matches by a tree, with the rule that it names: 0, 1, 11, 13 or 14.
-pub fn match_tree(tree: &[u32], term: &[u32], bodies: &mut [u32], lengths: &mut [u32; 16]) -> (Answer, u32) {
-    let mut rule = 0;
+/// Matches by a tree, with the rule that it names and the number of arguments set aside: 0, 1, 11, 13 or 14.
+pub fn match_tree(tree: &[u32], term: &[u32], bodies: &mut [u32], lengths: &mut [u32; 16]) -> (Answer, u32, u32) {
+    let (mut rule, mut aside) = (0, 0);
     let answer = answer(|at| unsafe {
         rosenduch_match_tree(
             tree.as_ptr(),
@@ -124,13 +139,14 @@ pub fn match_tree(tree: &[u32], term: &[u32], bodies: &mut [u32], lengths: &mut 
             bodies.len(),
             lengths,
             &mut rule,
+            &mut aside,
             at,
         )
     });
-    (answer, rule)
+    (answer, rule, aside)
 }
 
-/// Rewrites a term at its root: 0, 1, 11, 12, 13, 14 or 15.
+/// Rewrites a term at its root: 0, 1, 11, 12, 13, 14, 15 or 18.
 pub fn rewrite_root(book: &[u32], tree: &[u32], term: &[u32], out: &mut [u32]) -> Answer {
     answer(|at| unsafe {
         rosenduch_rewrite_root(
@@ -147,7 +163,7 @@ pub fn rewrite_root(book: &[u32], tree: &[u32], term: &[u32], out: &mut [u32]) -
     })
 }
 
-/// Simplifies a term, with the steps made: 0, 2, 11, 12, 13, 14 or 15.
+/// Simplifies a term, with the steps made: 0, 2, 11, 12, 13, 14, 15 or 18.
 pub fn simplify(book: &[u32], tree: &[u32], term: &[u32], budget: u16, out: &mut [u32]) -> (Answer, u16) {
     let mut steps = 0;
     let answer = answer(|at| unsafe {

@@ -14,6 +14,27 @@
 //! # }
 //! ```
 //!
+//! A rule is for a front part of the arguments: at the root of a match, a left side with fewer arguments than the term fits too, and the last
+//! arguments of the term, as many as there are more, are set aside. Inside a left side the counts are equal. What the rule writes gets the
+//! arguments set aside at its end. For that its root is to be a symbol and to have at most 15 arguments together with them; else the term is
+//! refused by 18, [`CANNOT_TAKE`]:
+//!
+//! ```
+//! # use rosenduch::{Refused, CANNOT_TAKE};
+//! # fn main() -> Result<(), Refused> {
+//! let book = rosenduch::read_book("book=1\nrules=1\nrule=0\nvars=1\nleft=s2.1 m0.0\nright=m0.0\n")?;
+//! let tree = rosenduch::compile(&book)?;
+//! let simplified = |text: &str| {
+//!     let done = rosenduch::simplify(&book, &tree, &rosenduch::read_term(text)?, 1_000)?;
+//!     rosenduch::write_term(&done.term)
+//! };
+//! assert_eq!(simplified("s2.3 s7.0 v1 v2\n")?, "s7.2 v1 v2\n");
+//! // An abstraction takes no arguments, and two are set aside.
+//! assert_eq!(simplified("s2.3 l v1 v1 v2\n"), Err(Refused { number: CANNOT_TAKE, at: 2 }));
+//! # Ok(())
+//! # }
+//! ```
+//!
 //! Every function takes every input, whole or damaged, and comes to an end; what is bad is [`Refused`] with document 01's number and place. The
 //! functions here lend buffers of the largest sizes that results can have, so they refuse by 13 only a tree over 16,384 words and a
 //! book text over 65,536 bytes. The functions of [`raw`] take the caller's buffers.
@@ -28,7 +49,7 @@ mod answer;
 mod foreign;
 mod length;
 
-pub use answer::{Answer, Refused, BUDGET_USED, DONE, NO_FIT};
+pub use answer::{Answer, Refused, BUDGET_USED, CANNOT_TAKE, DONE, NO_FIT};
 
 /// The thirteen operations as they are: the caller lends every output, of any length. After a refusal, and where no rule fits, every lent
 /// output is zero; else what a result leaves unused is zero.
@@ -52,11 +73,12 @@ pub const MOST_REPAIRED: usize = 2 * MOST_TEXT + 16;
 /// The most words of all bodies: sixteen variables, each with a whole term.
 pub const MOST_BODIES: usize = 16 * MOST_TERM;
 
-/// What a tree finds: a rule, and the body of each of its variables.
+/// What fits: a rule, the body of each of its variables, and how many of the term's last arguments are set aside.
 #[derive(Clone, Debug, PartialEq, Eq)]
 pub struct Match {
     pub rule: u32,
     pub bodies: Vec<Vec<u32>>,
+    pub aside: u32,
 }
 
 /// What simplifying leaves.
@@ -107,16 +129,17 @@ pub fn check_book(book: &[u32]) -> Result<(), Refused> {
     raw::check_book(book).accepted().map(|_| ())
 }
 
-/// The bodies with which a rule of the book fits the term, one for each variable; `None` where it does not fit.
-pub fn match_rule(book: &[u32], rule: u32, term: &[u32]) -> Result<Option<Vec<Vec<u32>>>, Refused> {
+/// How a rule of the book fits the term; `None` where it does not fit.
+pub fn match_rule(book: &[u32], rule: u32, term: &[u32]) -> Result<Option<Match>, Refused> {
     let mut buffer = vec![0; MOST_BODIES];
     let mut lengths = [0; 16];
-    let number = raw::match_rule(book, rule, term, &mut buffer, &mut lengths).accepted()?;
-    Ok((number == DONE).then(|| split(&buffer, &lengths)))
+    let (answer, aside) = raw::match_rule(book, rule, term, &mut buffer, &mut lengths);
+    let number = answer.accepted()?;
+    Ok((number == DONE).then(|| Match { rule, bodies: split(&buffer, &lengths), aside }))
 }
 
-/// A rule's left side, built from one body for each variable. More than sixteen bodies are refused as bodies for unused variables are:
-/// 11 at 16.
+/// A rule's left side, built from one body for each variable; from a match it is the term that was matched, without the arguments set aside.
+/// More than sixteen bodies are refused as bodies for unused variables are: 11 at 16.
 pub fn build_left(book: &[u32], rule: u32, bodies: &[Vec<u32>]) -> Result<Vec<u32>, Refused> {
     let mut lengths = [0; 16];
     for (length, body) in lengths.iter_mut().zip(bodies) {
@@ -135,16 +158,16 @@ pub fn compile(book: &[u32]) -> Result<Vec<u32>, Refused> {
     Ok(cut(out, words as usize))
 }
 
-/// The rule that the tree names for the term, with its bodies; `None` where it says that none fits.
+/// The rule that the tree names for the term, and how it fits; `None` where it says that none fits.
 pub fn match_tree(tree: &[u32], term: &[u32]) -> Result<Option<Match>, Refused> {
     let mut buffer = vec![0; MOST_BODIES];
     let mut lengths = [0; 16];
-    let (answer, rule) = raw::match_tree(tree, term, &mut buffer, &mut lengths);
+    let (answer, rule, aside) = raw::match_tree(tree, term, &mut buffer, &mut lengths);
     let number = answer.accepted()?;
-    Ok((number == DONE).then(|| Match { rule, bodies: split(&buffer, &lengths) }))
+    Ok((number == DONE).then(|| Match { rule, bodies: split(&buffer, &lengths), aside }))
 }
 
-/// The term, rewritten at its root by the rule that the tree names; `None` where none fits.
+/// The term, rewritten at its root by the rule that the tree names, with the arguments set aside at its end; `None` where none fits.
 pub fn rewrite_root(book: &[u32], tree: &[u32], term: &[u32]) -> Result<Option<Vec<u32>>, Refused> {
     let mut out = vec![0; MOST_TERM];
     let number = raw::rewrite_root(book, tree, term, &mut out).accepted()?;

@@ -1,6 +1,6 @@
 //! Document 01's examples through the safe functions.
 
-use rosenduch::Refused;
+use rosenduch::{Match, Refused, CANNOT_TAKE};
 
 const BOOK_A: &str = "book=1\nrules=3\n\
     rule=0\nvars=1\nleft=s2.2 m0.0 m0.0\nright=m0.0\n\
@@ -24,8 +24,8 @@ fn book_a_simplifies_both_terms() {
     with_stack(|| {
         let book = rosenduch::read_book(BOOK_A)?;
         let tree = rosenduch::compile(&book)?;
-        assert_eq!(tree.len(), 51);
-        assert_eq!(tree[..8], [2, 0, 2, 131_074, 8, 65_539, 20, 50]);
+        assert_eq!(tree.len(), 725);
+        assert_eq!(tree[..5], [2, 0, 29, 131_074, 62]);
         for (from, to) in [("s2.2 s3.1 l s7.0 s7.0", "s7.0\n"), ("s3.1 l s4.1 s4.1 v1", "s4.1 s4.1 s3.1 l v1\n")] {
             let done = rosenduch::simplify(&book, &tree, &term(from)?, 1_000)?;
             assert_eq!((done.steps, done.budget_used), (2, false));
@@ -76,16 +76,33 @@ fn marked_matches_of_book_a() {
             [("s2.2 s7.0 s7.0", 0, "s7.0"), ("s3.1 l v2", 1, "v1"), ("s3.1 l s4.1 v1", 2, "v1"), ("s3.1 l s4.1 s7.0", 1, "s4.1 s7.0")]
         {
             let of = term(of)?;
-            let bodies = vec![term(body)?];
-            let found = rosenduch::match_tree(&tree, &of)?.unwrap();
-            assert_eq!((found.rule, &found.bodies), (rule, &bodies));
-            assert_eq!(rosenduch::match_rule(&book, rule, &of)?, Some(bodies.clone()));
-            assert_eq!(rosenduch::build_left(&book, rule, &bodies)?, of);
+            let found = Some(Match { rule, bodies: vec![term(body)?], aside: 0 });
+            assert_eq!(rosenduch::match_tree(&tree, &of)?, found);
+            assert_eq!(rosenduch::match_rule(&book, rule, &of)?, found);
+            assert_eq!(rosenduch::build_left(&book, rule, &[term(body)?])?, of);
         }
         for of in ["s2.2 s7.0 s8.0", "s3.1 l v1"] {
             assert_eq!(rosenduch::match_tree(&tree, &term(of)?)?, None);
             assert_eq!(rosenduch::rewrite_root(&book, &tree, &term(of)?)?, None);
         }
+        Ok(())
+    });
+}
+
+#[test]
+fn a_rule_is_for_a_front_part() {
+    with_stack(|| {
+        let book = rosenduch::read_book(BOOK_A)?;
+        let tree = rosenduch::compile(&book)?;
+        let of = term("s2.4 s7.0 s7.0 v1 v2")?;
+        let found = Some(Match { rule: 0, bodies: vec![term("s7.0")?], aside: 2 });
+        assert_eq!(rosenduch::match_tree(&tree, &of)?, found);
+        assert_eq!(rosenduch::match_rule(&book, 0, &of)?, found);
+        assert_eq!(rosenduch::build_left(&book, 0, &[term("s7.0")?])?, term("s2.2 s7.0 s7.0")?);
+        assert_eq!(rosenduch::rewrite_root(&book, &tree, &of)?, Some(term("s7.2 v1 v2")?));
+        let refused = rosenduch::rewrite_root(&book, &tree, &term("s2.4 v5 v5 v1 v2")?).unwrap_err();
+        assert_eq!(refused, Refused { number: CANNOT_TAKE, at: 2 });
+        assert_eq!(refused.to_string(), "what is written cannot take the arguments set aside (number 18, at 2)");
         Ok(())
     });
 }
