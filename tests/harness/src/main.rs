@@ -9,6 +9,7 @@
 
 mod case;
 mod edges;
+mod front;
 mod lent;
 mod make;
 mod outcome;

@@ -6,6 +6,7 @@ use second::gen_repair::{repair_case, RepairCase};
 use second::{book, Rng};
 
 use crate::case::Case;
+use crate::front;
 use crate::outcome;
 
 /// An input and what was done to it.
@@ -21,6 +22,9 @@ const TURNS: [usize; 19] = [0, 1, 2, 2, 3, 3, 4, 5, 5, 6, 6, 7, 7, 8, 9, 10, 11,
 
 /// The input of repairing, by which its labels are found.
 pub const MAIL: &str = "mail";
+
+/// Rewriting by a rule for a front part of the arguments, by which its labels are found.
+pub const FRONT: &str = "front";
 
 /// The one case of a seed.
 pub fn made(seed: u64) -> Made {
@@ -178,7 +182,7 @@ impl Maker {
     }
 
     fn tree(&mut self, book: &[u32]) -> Vec<u32> {
-        match self.rng.below(12) {
+        match self.rng.below(13) {
             0..=5 => {
                 self.label("tree", "compiled");
                 gen::compiled(book)
@@ -192,7 +196,13 @@ impl Maker {
                 let odd = if self.once_in(2) { 0 } else { self.rng.from_to(5, 60) };
                 gen::random_tree(&mut self.rng, &self.alphabet, book, odd)
             }
-            8 if self.once_in(4) => {
+            8 => {
+                self.label("tree", "a wrong number set aside");
+                let mut tree = gen::compiled(book);
+                gen::wrong_aside(&mut self.rng, &mut tree);
+                tree
+            }
+            9 if self.once_in(4) => {
                 self.label("tree", "lengthened to its limit");
                 let mut tree = gen::compiled(book);
                 tree.resize(rosenduch::MOST_TREE + self.rng.below(3), 0);
@@ -321,6 +331,11 @@ impl Maker {
     }
 
     fn match_rule(&mut self) -> Case {
+        if self.once_in(6) {
+            let gen::RewriteCase { book, term, .. } = self.front();
+            let rule = self.rule(&book);
+            return Case::MatchRule { book, rule, term, room: 0 };
+        }
         let book = self.book(20);
         let rule = self.rule(&book);
         let term = if self.once_in(2) { self.built(&book, rule) } else { self.term(&book, 12) };
@@ -336,6 +351,9 @@ impl Maker {
             return self.term(book, 12);
         }
         let mut term = told.words[..told.need(&case)].to_vec();
+        if self.once_in(3) {
+            gen::lengthen(&mut self.rng, &self.alphabet, &mut term);
+        }
         if self.once_in(4) {
             gen::nudge(&mut self.rng, &mut term);
         }
@@ -351,6 +369,9 @@ impl Maker {
     }
 
     fn compile(&mut self) -> Case {
+        if self.once_in(10) {
+            return Case::Compile { book: self.front().book, room: 0 };
+        }
         if self.once_in(8) {
             self.label("book", "whole");
             let rules = self.rng.from_to(8, 40);
@@ -361,13 +382,28 @@ impl Maker {
     }
 
     fn match_tree(&mut self) -> Case {
+        if self.once_in(6) {
+            let gen::RewriteCase { tree, term, .. } = self.front();
+            return Case::MatchTree { tree, term, room: 0 };
+        }
         let book = gen::book(&mut self.rng, &self.alphabet);
         let (tree, term) = self.tree_and_term(&book);
         Case::MatchTree { tree, term, room: 0 }
     }
 
-    /// A book, a tree and a term, at times so near a limit that a step passes it.
-    fn rewriting(&mut self) -> (Vec<u32>, Vec<u32>, Vec<u32>) {
+    /// A book, a tree and a term with more arguments than the book's rules have.
+    fn front(&mut self) -> gen::RewriteCase {
+        self.label("term", "for a front part");
+        gen::aside_case(&mut self.rng)
+    }
+
+    /// A book, a tree and a term, at times with arguments set aside, or so near a limit that a step passes it. `offsets` of the term are looked at.
+    fn rewriting(&mut self, offsets: usize) -> (Vec<u32>, Vec<u32>, Vec<u32>) {
+        if self.once_in(5) {
+            let gen::RewriteCase { book, tree, term, .. } = self.front();
+            self.labels.extend(front::kinds(&book, &tree, &term, offsets).into_iter().map(|kind| (FRONT, kind)));
+            return (book, tree, term);
+        }
         if self.once_in(5) {
             let gen::RewriteCase { book, tree, term, .. } = gen::growth_case(&mut self.rng);
             self.label("term", "near a limit");
@@ -379,12 +415,12 @@ impl Maker {
     }
 
     fn rewrite_root(&mut self) -> Case {
-        let (book, tree, term) = self.rewriting();
+        let (book, tree, term) = self.rewriting(1);
         Case::RewriteRoot { book, tree, term, room: 0 }
     }
 
     fn simplify(&mut self) -> Case {
-        let (book, tree, term) = self.rewriting();
+        let (book, tree, term) = self.rewriting(rosenduch::MOST_TERM);
         let budget = self.budget();
         Case::Simplify { book, tree, term, budget, room: 0 }
     }

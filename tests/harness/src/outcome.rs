@@ -18,6 +18,8 @@ pub struct Outcome {
     pub at: u64,
     /// The words of a tree, the rule of a match or the steps made.
     pub further: u32,
+    /// The arguments set aside in a match.
+    pub aside: u32,
     pub words: Vec<u32>,
     pub lengths: Vec<u32>,
     pub bytes: Vec<u8>,
@@ -32,7 +34,7 @@ fn shown<T: Copy + Into<u64>>(lent: &[T]) -> String {
 
 impl fmt::Display for Outcome {
     fn fmt(&self, f: &mut fmt::Formatter<'_>) -> fmt::Result {
-        write!(f, "{} at {}, further {}, ", self.number, self.at, self.further)?;
+        write!(f, "{} at {}, further {}, aside {}, ", self.number, self.at, self.further, self.aside)?;
         write!(f, "words {}, ", shown(&self.words))?;
         write!(f, "lengths {}, ", shown(&self.lengths))?;
         write!(f, "bytes {}", shown(&self.bytes))
@@ -106,12 +108,18 @@ pub fn library(case: &Case) -> Outcome {
     match case {
         Case::CheckTerm { term } => of_library(raw::check_term(term)),
         Case::CheckBook { book } => of_library(raw::check_book(book)),
-        Case::MatchRule { book, rule, term, room } => with_bodies(*room, |b, l| of_library(raw::match_rule(book, *rule, term, b, l))),
+        Case::MatchRule { book, rule, term, room } => with_bodies(*room, |b, l| {
+            let (answer, aside) = raw::match_rule(book, *rule, term, b, l);
+            Outcome { aside, ..of_library(answer) }
+        }),
         Case::BuildLeft { book, rule, bodies, lengths, room } => {
             with_words(*room, |out| of_library(raw::build_left(book, *rule, bodies, lengths, out)))
         }
         Case::Compile { book, room } => with_words(*room, |out| with(raw::compile(book, out))),
-        Case::MatchTree { tree, term, room } => with_bodies(*room, |b, l| with(raw::match_tree(tree, term, b, l))),
+        Case::MatchTree { tree, term, room } => with_bodies(*room, |b, l| {
+            let (answer, rule, aside) = raw::match_tree(tree, term, b, l);
+            Outcome { aside, ..with((answer, rule)) }
+        }),
         Case::RewriteRoot { book, tree, term, room } => with_words(*room, |out| of_library(raw::rewrite_root(book, tree, term, out))),
         Case::Simplify { book, tree, term, budget, room } => with_words(*room, |out| {
             let (answer, steps) = raw::simplify(book, tree, term, *budget, out);
@@ -140,7 +148,10 @@ pub fn second(case: &Case) -> Outcome {
     match case {
         Case::CheckTerm { term } => of_second(second::check_term(term)),
         Case::CheckBook { book } => of_second(second::check_book(book)),
-        Case::MatchRule { book, rule, term, room } => with_bodies(*room, |b, l| of_second(second::match_rule(book, *rule, term, b, l))),
+        Case::MatchRule { book, rule, term, room } => with_bodies(*room, |b, l| {
+            let (answer, aside) = second::match_rule(book, *rule, term, b, l);
+            Outcome { aside, ..of_second(answer) }
+        }),
         Case::BuildLeft { book, rule, bodies, lengths, room } => {
             with_words(*room, |out| of_second(second::build_left(book, *rule, bodies, lengths, out)))
         }
@@ -148,7 +159,10 @@ pub fn second(case: &Case) -> Outcome {
             let answer = second::compile(book, out);
             with((answer, words_of(answer, book)))
         }),
-        Case::MatchTree { tree, term, room } => with_bodies(*room, |b, l| with(second::match_tree(tree, term, b, l))),
+        Case::MatchTree { tree, term, room } => with_bodies(*room, |b, l| {
+            let (answer, rule, aside) = second::match_tree(tree, term, b, l);
+            Outcome { aside, ..with((answer, rule)) }
+        }),
         Case::RewriteRoot { book, tree, term, room } => with_words(*room, |out| of_second(second::rewrite_root(book, tree, term, out))),
         Case::Simplify { book, tree, term, budget, room } => {
             with_words(*room, |out| with(second::simplify(book, tree, term, *budget, out)))

@@ -1,15 +1,16 @@
-//! What a run met: numbers for each operation, what was done to the inputs, and what fitted.
+//! What a run met: numbers for each operation, what was done to the inputs, what fitted, and how often arguments were set aside.
 
 use std::collections::BTreeMap;
 
 use second::gen_repair::{Flaw, Kind};
 
 use crate::case::{Case, OPERATIONS};
-use crate::make::{Label, MAIL};
+use crate::front;
+use crate::make::{Label, FRONT, MAIL};
 use crate::outcome::Outcome;
 
-/// Document 01's numbers.
-const NUMBERS: [u32; 10] = [0, 1, 2, 10, 11, 12, 13, 14, 15, 16];
+/// The documents' numbers.
+const NUMBERS: [u32; 11] = [0, 1, 2, 10, 11, 12, 13, 14, 15, 16, 18];
 
 /// The kinds of a text that came by mail, beside those with one flaw.
 const KINDS: [Kind; 20] = [
@@ -35,8 +36,11 @@ const KINDS: [Kind; 20] = [
     Kind::Damaged,
 ];
 
+/// The operations that say how many arguments are set aside, by their place in `OPERATIONS`.
+const MATCHES: [usize; 2] = [2, 5];
+
 /// All kinds of a text that came by mail, by their names.
-fn kinds() -> impl Iterator<Item = &'static str> {
+fn mail_kinds() -> impl Iterator<Item = &'static str> {
     KINDS.into_iter().chain(Flaw::ALL.map(Kind::Bad)).map(Kind::name)
 }
 
@@ -46,8 +50,10 @@ pub struct Tally {
     /// By operation and number.
     numbers: BTreeMap<(usize, u32), u64>,
     labels: BTreeMap<Label, u64>,
-    /// By what was done to a text that came by mail, and number.
-    mail: BTreeMap<(&'static str, u32), u64>,
+    /// By the kind of a text that came by mail or of a rule for a front part, and number.
+    kinds: BTreeMap<(Label, u32), u64>,
+    /// Matches with arguments set aside, by operation.
+    aside: BTreeMap<usize, u64>,
     /// Cases of simplifying with at least one step, and all of their steps.
     stepped: u64,
     steps: u64,
@@ -59,10 +65,11 @@ impl Tally {
         *self.numbers.entry((case.operation(), outcome.number)).or_default() += 1;
         for &label in labels {
             match label {
-                (MAIL, kind) => *self.mail.entry((kind, outcome.number)).or_default() += 1,
+                (MAIL | FRONT, _) => *self.kinds.entry((label, outcome.number)).or_default() += 1,
                 _ => *self.labels.entry(label).or_default() += 1,
             }
         }
+        *self.aside.entry(case.operation()).or_default() += u64::from(outcome.aside > 0);
         if let Case::Simplify { .. } = case {
             self.stepped += u64::from(outcome.further > 0);
             self.steps += u64::from(outcome.further);
@@ -79,8 +86,11 @@ impl Tally {
         for (key, times) in other.labels {
             *self.labels.entry(key).or_default() += times;
         }
-        for (key, times) in other.mail {
-            *self.mail.entry(key).or_default() += times;
+        for (key, times) in other.kinds {
+            *self.kinds.entry(key).or_default() += times;
+        }
+        for (key, times) in other.aside {
+            *self.aside.entry(key).or_default() += times;
         }
     }
 
@@ -88,7 +98,11 @@ impl Tally {
         self.numbers.get(&(operation, number)).copied().unwrap_or(0)
     }
 
-    /// Answers that an operation cannot give, and those it can that were not met; and kinds of mail that were not.
+    fn set_aside(&self, operation: usize) -> u64 {
+        self.aside.get(&operation).copied().unwrap_or(0)
+    }
+
+    /// Answers that an operation cannot give, and those it can that were not met; and kinds and matches that were not.
     pub fn faults(&self) -> Vec<String> {
         let mut faults = Vec::new();
         for &(operation, number) in self.numbers.keys() {
@@ -103,8 +117,13 @@ impl Tally {
                 }
             }
         }
-        let missed = kinds().filter(|kind| !self.mail.keys().any(|(met, _)| met == kind));
+        let met = |input, kind| self.kinds.keys().any(|(label, _)| *label == (input, kind));
+        let missed = mail_kinds().filter(|&kind| !met(MAIL, kind));
         faults.extend(missed.map(|kind| format!("no text to repair was of the kind {kind:?}")));
+        let missed = front::all().filter(|&kind| !met(FRONT, kind));
+        faults.extend(missed.map(|kind| format!("no rule for a front part was of the kind {kind:?}")));
+        let missed = MATCHES.into_iter().filter(|&operation| self.set_aside(operation) == 0);
+        faults.extend(missed.map(|operation| format!("{} set nothing aside", OPERATIONS[operation].name)));
         faults
     }
 
@@ -125,14 +144,17 @@ impl Tally {
         }
         self.print_fitted();
         self.print_labels();
-        self.print_mail();
+        self.print_kinds("texts to repair", MAIL, mail_kinds(), &[0, 10, 13]);
+        self.print_kinds("rules for a front part", FRONT, front::all(), &[0, 1, 2, 11, 13, 14, 15, 18]);
     }
 
     fn print_fitted(&self) {
         println!("rules fitted:");
-        for operation in [2, 5, 6] {
-            println!("{:>14} {:>8}", OPERATIONS[operation].name, self.times(operation, 0));
+        for operation in MATCHES {
+            let (name, times) = (OPERATIONS[operation].name, self.times(operation, 0));
+            println!("{name:>14} {times:>8}, with arguments set aside {}", self.set_aside(operation));
         }
+        println!("{:>14} {:>8}", "rewrite_root", self.times(6, 0));
         println!("{:>14} {:>8} with a step or more, {} steps", "simplify", self.stepped, self.steps);
     }
 
@@ -143,12 +165,14 @@ impl Tally {
         }
     }
 
-    fn print_mail(&self) {
-        println!("texts to repair, by kind and number:\n{:>32}{:>9}{:>9}{:>9}", "", 0, 10, 13);
-        for kind in kinds() {
-            print!("{kind:>32}");
-            for number in [0, 10, 13] {
-                match self.mail.get(&(kind, number)) {
+    fn print_kinds(&self, title: &str, input: &'static str, kinds: impl Iterator<Item = &'static str>, numbers: &[u32]) {
+        print!("{title}, by kind and number:\n{:>34}", "");
+        numbers.iter().for_each(|number| print!("{number:>9}"));
+        println!();
+        for kind in kinds {
+            print!("{kind:>34}");
+            for &number in numbers {
+                match self.kinds.get(&((input, kind), number)) {
                     None => print!("{:>9}", "-"),
                     Some(times) => print!("{times:>9}"),
                 }

@@ -90,7 +90,7 @@ fn asks_same(first: &Part, later: &Part) -> Vec<u32> {
     tree.extend([4, places[0], places[1], k]);
     tree.extend(first.1);
     tree.extend(later.1);
-    tree.extend([leaf, fail, 0, 1, YES, 0]);
+    tree.extend([leaf, fail, 0, 1, YES, 0, 0]);
     tree
 }
 

@@ -6,14 +6,60 @@ use super::words::{book_a, book_b, rule, words};
 use super::{answer, clear, done, edge, flat, Edge, Told, BAD_BOOK, NO_ROOM};
 use crate::case::Case;
 
-/// The tree of book A, 51 words.
-pub const TREE_A: &str = "2 0 2 s2.2 8 s3.1 20 50 \
-    4 1 2 0 14 19 1 0 1 1 0 0 \
-    2 1 1 l 26 49 3 2 0 31 36 1 1 1 2 0 2 2 1 s4.1 42 48 1 2 1 3 1 1 0 0 0";
+/// A tree whose root Switch has these symbols, each from its smallest count up to 15, with the subtree for a symbol and a count at an address; its
+/// default is a Fail.
+fn rooted(symbols: &[(u32, u32)], below: impl Fn(u32, u32, u32) -> Vec<u32>) -> Vec<u32> {
+    let cases: Vec<_> = symbols.iter().flat_map(|&(id, least)| (least..=15).map(move |count| (id, count))).collect();
+    let first = 4 + 2 * cases.len() as u32;
+    let mut root = vec![2, 0, cases.len() as u32];
+    let mut subtrees = Vec::new();
+    for (id, count) in cases {
+        let at = first + subtrees.len() as u32;
+        root.extend([symbol(id, count), at]);
+        subtrees.extend(below(id, count, at));
+    }
+    root.push(first + subtrees.len() as u32);
+    [root, subtrees, vec![0]].concat()
+}
 
-/// The tree of book B, 50 words.
-pub const TREE_B: &str = "2 0 1 s6.2 6 49 2 1 1 l 12 48 2 2 1 l 18 47 2 4 1 l 24 46 \
-    3 5 1 2 30 45 4 3 5 1 1 2 38 44 1 0 1 3 1 1 0 0 0 0 0 0";
+/// The words of a subtree at an address: a token `+n` is the address n words after its first.
+fn subtree(at: u32, tokens: &str) -> Vec<u32> {
+    let token = |token: &str| match token.strip_prefix('+') {
+        Some(after) => vec![at + words(after)[0]],
+        None => words(token),
+    };
+    tokens.split_whitespace().flat_map(token).collect()
+}
+
+/// Book A's tree below `s2`: rule 0. The parts are at 1 and 2, one Fail is there.
+fn below_s2(count: u32, at: u32) -> Vec<u32> {
+    let aside = count - 2;
+    subtree(at, &format!("4 1 2 0 +6 +12 1 0 1 {aside} 1 0 0"))
+}
+
+/// Below `s3`: rules 1 and 2. The children of `l` and of `s4.1` come after those of the root, two Fails are there.
+fn below_s3(count: u32, at: u32) -> Vec<u32> {
+    let (aside, loop_part, inner) = (count - 1, count + 1, count + 2);
+    let asks = format!("2 1 1 l +6 +31 3 {loop_part} 0 +11 +17 1 1 1 {aside} {loop_part} 0");
+    subtree(at, &format!("{asks} 2 {loop_part} 1 s4.1 +23 +30 1 2 1 {aside} {inner} 1 1 0 0"))
+}
+
+/// Below `s6`: book B's rule. The children of the three abstractions come after those of the root, five Fails are there.
+fn below_s6(count: u32, at: u32) -> Vec<u32> {
+    let (aside, first, outer, later) = (count - 2, count + 1, count + 2, count + 3);
+    let down = format!("2 1 1 l +6 +43 2 2 1 l +12 +42 2 {outer} 1 l +18 +41");
+    subtree(at, &format!("{down} 3 {later} 1 2 +24 +40 4 {first} {later} 1 1 2 +32 +39 1 0 1 {aside} {first} 1 1 0 0 0 0 0"))
+}
+
+/// The tree of book A: 62 words of the root, 14 times 13, 15 times 32 and a Fail are 725, and 14, 15 times 2 and 1 of its nodes are Fails.
+pub fn tree_a() -> Vec<u32> {
+    rooted(&[(2, 2), (3, 1)], |id, count, at| if id == 2 { below_s2(count, at) } else { below_s3(count, at) })
+}
+
+/// The tree of book B: 32 words of the root, 14 times 44 and a Fail are 649.
+pub fn tree_b() -> Vec<u32> {
+    rooted(&[(6, 2)], |_, count, at| below_s6(count, at))
+}
 
 fn compiled(name: &str, book: Vec<u32>, room: usize, told: Told) -> Edge {
     edge(name, Case::Compile { book, room }, told)
@@ -26,12 +72,12 @@ fn tree(words: Vec<u32>) -> Told {
 }
 
 fn marked() -> Vec<Edge> {
-    let a = || tree(words(TREE_A));
+    let a = || tree(tree_a());
     vec![
-        compiled("book A", book_a(), 51, a()),
-        compiled("book B, and zeros after its tree", book_b(), 64, tree(words(TREE_B))),
-        compiled("book A, one word short", book_a(), 50, clear(NO_ROOM, 0)),
-        compiled("book A, two words more", book_a(), 53, a()),
+        compiled("book A, 725 words of which 45 are Fails", book_a(), 725, a()),
+        compiled("book B, and zeros after its tree", book_b(), 700, tree(tree_b())),
+        compiled("book A, one word short", book_a(), 724, clear(NO_ROOM, 0)),
+        compiled("book A, two words more", book_a(), 727, a()),
         compiled("book A, no room", book_a(), 0, clear(NO_ROOM, 0)),
     ]
 }
@@ -49,42 +95,75 @@ fn refusals() -> Vec<Edge> {
 
 const RULES: u32 = 64;
 
-/// The widest book: its rules have one symbol each, no two the same.
+/// The book with most root cases: its rules have one symbol each, no two the same, and no arguments, so each has 16 counts.
 fn widest() -> Vec<u32> {
     let mut out = vec![RULES];
     (0..RULES).for_each(|id| out.extend(rule(0, &[id], &[0])));
     out
 }
 
-/// Its tree: a Switch with a case for each rule, their Leaves, and a Fail.
+/// Its tree, 6,149 words: a Switch of 1,024 cases, their Leaves, and a Fail.
 fn widest_tree() -> Vec<u32> {
-    let leaves = 3 + 2 * RULES + 1;
-    let mut out = vec![2, 0, RULES];
-    (0..RULES).for_each(|id| out.extend([id, leaves + 3 * id]));
-    out.push(leaves + 3 * RULES);
-    (0..RULES).for_each(|id| out.extend([1, id, 0]));
-    out.push(0);
+    let symbols: Vec<_> = (0..RULES).map(|id| (id, 0)).collect();
+    rooted(&symbols, |id, count, _| vec![1, id, 0, count])
+}
+
+/// The book with most rows in each count: its rules have one symbol, with one leaf each, no two the same.
+fn fullest() -> Vec<u32> {
+    let mut out = vec![RULES];
+    (0..RULES).for_each(|id| out.extend(rule(0, &[symbol(1_000, 1), id], &[0])));
     out
 }
 
-/// An abstraction with symbols below it, 48 words, whose leaves are all the variable 14. Each is to be closed, and the same as the first.
-fn thicket() -> Vec<u32> {
-    let leaf = pattern(14, 0);
-    let full = [vec![symbol(3, 15)], vec![leaf; 15]].concat();
-    [vec![LAMBDA, symbol(3, 15)], full.clone(), full, vec![symbol(5, 1)], vec![leaf; 13]].concat()
+/// Its tree, 5,870 words: for each count a Switch of 64 cases, their Leaves, and a Fail.
+fn fullest_tree() -> Vec<u32> {
+    let below = |_, count, at| {
+        let leaves = at + 4 + 2 * RULES;
+        let mut out = vec![2, 1, RULES];
+        (0..RULES).for_each(|id| out.extend([id, leaves + 4 * id]));
+        out.push(leaves + 4 * RULES);
+        (0..RULES).for_each(|id| out.extend([1, id, 0, count - 1]));
+        out.push(0);
+        out
+    };
+    rooted(&[(1_000, 1)], below)
 }
 
-/// A left side of the deepest book: child a of the root has eight children too, of which child b is a thicket. All other children are variables.
-fn deep_left(a: usize, b: usize) -> Vec<u32> {
+/// A left side of 64 words: child a of the root has `inner` children, of which child b is made to fill it. All other children are variables, each
+/// its own; so many there are.
+fn with_part(outer: usize, inner: usize, number: usize, part: fn(usize, u32) -> Vec<u32>) -> Vec<u32> {
+    let (a, b) = (number / inner % outer, number % inner);
+    let others = outer + inner - 2;
     let variables = |from: usize, number: usize| (from..from + number).map(|id| pattern(id as u32, 0)).collect::<Vec<_>>();
-    let below = [vec![symbol(2, 8)], variables(7, b), thicket(), variables(7 + b, 7 - b)].concat();
-    [vec![symbol(1, 8)], variables(0, a), below, variables(a, 7 - a)].concat()
+    let part = part(62 - others, others as u32);
+    let below = [vec![symbol(2, inner as u32)], variables(outer - 1, b), part, variables(outer - 1 + b, inner - 1 - b)].concat();
+    [vec![symbol(1, outer as u32)], variables(0, a), below, variables(a, outer - 1 - a)].concat()
 }
 
-/// The deepest book: each rule asks at places of its own, so the tree goes down through rule after rule.
+/// An abstraction with symbols below it, so many words, whose leaves are all one variable. Each is to be closed, and the same as the first.
+fn thicket(length: usize, variable: u32) -> Vec<u32> {
+    let mut out = vec![LAMBDA];
+    while out.len() < length {
+        let left = length - out.len();
+        let node = left.min(16);
+        out.push(symbol(3, node as u32 - 1));
+        out.resize(out.len() + node - if left > 16 { 2 } else { 1 }, pattern(variable, 0));
+    }
+    out
+}
+
+/// The deepest book: each of 30 rules asks at places of its own, so the tree goes down through rule after rule, 2,845 nodes before it is over its
+/// size. The other rules are there again, so that many rows are gone through at each node.
 fn deepest() -> Vec<u32> {
     let mut out = vec![RULES];
-    (0..64).for_each(|number| out.extend(rule(15, &deep_left(number / 8, number % 8), &[0])));
+    (0..64).for_each(|number| out.extend(rule(10, &with_part(5, 6, number, thicket), &[0])));
+    out
+}
+
+/// The book with most Switches one below the other, 2,478 of them before its tree is over its size.
+fn most_switches() -> Vec<u32> {
+    let mut out = vec![RULES];
+    (0..64).for_each(|number| out.extend(rule(13, &with_part(8, 7, number, |length, _| symbols(length)), &[0])));
     out
 }
 
@@ -98,7 +177,8 @@ fn symbols(number: usize) -> Vec<u32> {
 }
 
 /// Two rules: the root of each has symbols below it, those of one as its first child and those of the other as its second. Its other children
-/// are variables, `more` beside one. The symbols of the first times those of the second, seven times, are the tree's words, and some more.
+/// are variables, `more` beside one. The symbols of the first times those of the second, seven times, are the words for each count that the root
+/// may have, and some more.
 fn pair(more: usize, first: usize, second: usize) -> Vec<u32> {
     let variables: Vec<u32> = (0..=more).map(|id| pattern(id as u32, 0)).collect();
     let root = [symbol(1, more as u32 + 2)];
@@ -112,12 +192,14 @@ fn limits() -> Vec<Edge> {
     let most = rosenduch::MOST_TREE;
     let whole = || answer(rosenduch::DONE, 0).further(most as u32);
     vec![
-        compiled("64 rules with one symbol each", widest(), most, tree(widest_tree())),
+        compiled("64 rules with one symbol each, 1,024 root cases", widest(), most, tree(widest_tree())),
+        compiled("64 rules with one symbol, all in each of 15 counts", fullest(), most, tree(fullest_tree())),
         compiled("64 rules of 64 words, one below the other", deepest(), most, clear(NO_ROOM, 0)),
-        compiled("a tree of 16,384 words", pair(2, 44, 51), most, whole()),
-        compiled("a tree of 16,384 words, one word short", pair(2, 44, 51), most - 1, clear(NO_ROOM, 0)),
-        compiled("a tree of 16,385 words", pair(1, 51, 44), most, clear(NO_ROOM, 0)),
-        compiled("a tree of 16,385 words, and room for it", pair(1, 51, 44), most + 1, clear(NO_ROOM, 0)),
+        compiled("64 rules of 64 words, Switch below Switch", most_switches(), most, clear(NO_ROOM, 0)),
+        compiled("a tree of 16,384 words, 11 counts", pair(3, 59, 1), most, whole()),
+        compiled("a tree of 16,384 words, one word short", pair(3, 59, 1), most - 1, clear(NO_ROOM, 0)),
+        compiled("a tree of 16,385 words, 14 counts", pair(0, 7, 22), most, clear(NO_ROOM, 0)),
+        compiled("a tree of 16,385 words, and room for it", pair(0, 7, 22), most + 1, clear(NO_ROOM, 0)),
     ]
 }
 

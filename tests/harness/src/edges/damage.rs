@@ -38,7 +38,7 @@ fn switches() -> Vec<Edge> {
         damaged("a default outside", "2 0 0 4", 0),
         damaged("a case whose address is not later", "2 0 1 s5.2 0 6 0", 0),
         none_fits("a case that is not taken has any address", "2 0 1 s5.0 0 6 0"),
-        over("a case taken", words("2 0 1 s5.2 7 6 0 1 3 0"), fits(&[]).further(3)),
+        over("a case taken", words("2 0 1 s5.2 7 6 0 1 3 0 0"), fits(&[]).further(3)),
         damaged("a place entered twice", "2 0 1 s5.2 6 12 2 0 1 s5.2 12 12 0", 6),
         none_fits("a default at a place that is entered", "2 0 1 s5.2 6 12 2 0 1 s5.0 12 12 0"),
     ]
@@ -48,15 +48,16 @@ fn leaves() -> Vec<Edge> {
     let entered = "2 0 1 s5.2 6 6 2 1 1 l 12 12";
     vec![
         damaged("a Leaf cut short", "1 0", 0),
-        damaged("a Leaf past the table", "1 0 1 0", 0),
-        damaged("a rule of 64", "1 64 0", 0),
-        damaged("17 variables", "1 0 17", 0),
-        damaged("a variable at a place not uncovered", "1 0 1 1 0", 0),
-        damaged("a list over 4 ids", "1 0 1 0 5 1 2 3 4 5", 0),
-        damaged("a list with an id outside", "1 0 1 0 1 1", 0),
-        over("a part over the room", words("1 63 1 0 0"), clear(NO_ROOM, 0)),
-        damaged("a part with no body", &format!("{entered} 1 0 1 3 0"), 12),
-        over("a part with a body", words(&format!("{entered} 1 9 2 3 1 1 2 0")), fits(&[words("v1"), words("s7.0")]).further(9)),
+        damaged("a Leaf without its number set aside", "1 0 0", 0),
+        damaged("a Leaf past the table", "1 0 1 0 0", 0),
+        damaged("a rule of 64", "1 64 0 0", 0),
+        damaged("17 variables", &format!("1 0 17 0{}", " 0 0".repeat(17)), 0),
+        damaged("a variable at a place not uncovered", "1 0 1 0 1 0", 0),
+        damaged("a list over 4 ids", "1 0 1 0 0 5 1 2 3 4 5", 0),
+        damaged("a list with an id outside", "1 0 1 0 0 1 1", 0),
+        over("a part over the room", words("1 63 1 0 0 0"), clear(NO_ROOM, 0)),
+        damaged("a part with no body", &format!("{entered} 1 0 1 0 3 0"), 12),
+        over("a part with a body", words(&format!("{entered} 1 9 2 0 3 1 1 2 0")), fits(&[words("v1"), words("s7.0")]).further(9)),
     ]
 }
 

@@ -4,7 +4,7 @@
 use second::gen;
 use second::Rng;
 
-use super::compiling::TREE_A;
+use super::compiling::tree_a;
 use super::words::{book_a, rule, words};
 use super::{answer, clear, done, edge, fits, flat, text, Edge, Told, BAD_BOOK, BAD_TERM, BOOK_A, NOT_IN_FORM, NO_ROOM};
 use crate::case::Case;
@@ -58,7 +58,7 @@ fn texts() -> Vec<Edge> {
 
 /// Each operation with an output, over document 01's first example, and its result.
 fn with_outputs() -> Vec<(Case, Told)> {
-    let (book, tree, term) = (book_a(), words(TREE_A), words("s2.2 s7.0 s7.0"));
+    let (book, tree, term) = (book_a(), tree_a(), words("s2.2 s7.0 s7.0"));
     let (s7, room) = (|| words("s7.0"), 0);
     let mut lengths = [0; 16];
     lengths[0] = 1;
@@ -70,7 +70,7 @@ fn with_outputs() -> Vec<(Case, Told)> {
     vec![
         (Case::MatchRule { book: book.clone(), rule: 0, term: term.clone(), room }, fits(&[s7()])),
         (Case::BuildLeft { book: book.clone(), rule: 0, bodies: s7(), lengths, room }, done(term.clone())),
-        (Case::Compile { book: book.clone(), room }, done(tree.clone()).further(51)),
+        (Case::Compile { book: book.clone(), room }, done(tree.clone()).further(725)),
         (Case::MatchTree { tree, term: term.clone(), room }, fits(&[s7()]).further(0)),
         (root, done(s7())),
         (simplify, done(s7()).further(1)),
@@ -107,7 +107,7 @@ fn budgets() -> Vec<Edge> {
     let term = || words("s2.2 s7.0 s7.0");
     let unlike = || words("s2.2 s7.0 s8.0");
     let simplify = |name: &str, term, told: Told| {
-        edge(name, Case::Simplify { book: book_a(), tree: words(TREE_A), term, budget: 0, room: 4_096 }, told.further(0))
+        edge(name, Case::Simplify { book: book_a(), tree: tree_a(), term, budget: 0, room: 4_096 }, told.further(0))
     };
     vec![
         simplify("budget 0, a rule fits", term(), Told { number: rosenduch::BUDGET_USED, ..done(term()) }),

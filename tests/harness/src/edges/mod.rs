@@ -5,12 +5,14 @@ mod building;
 mod comparing;
 mod compiling;
 mod damage;
+mod front;
 mod listed;
 mod matching;
 mod renumbering;
 pub mod repairing;
 mod rewriting;
 mod simplifying;
+mod taking;
 mod terms;
 mod walking;
 mod words;
@@ -25,6 +27,7 @@ pub struct Told {
     number: u32,
     at: u64,
     further: Option<u32>,
+    aside: u32,
     words: Option<Vec<u32>>,
     lengths: Option<Vec<u32>>,
     bytes: Option<Vec<u8>>,
@@ -38,7 +41,7 @@ pub struct Edge {
 
 /// A number and a place, and nothing of the results.
 fn answer(number: u32, at: u64) -> Told {
-    Told { number, at, further: None, words: None, lengths: None, bytes: None }
+    Told { number, at, further: None, aside: 0, words: None, lengths: None, bytes: None }
 }
 
 /// Done, with this result and zeros after it.
@@ -53,7 +56,8 @@ fn text(bytes: &str) -> Told {
 
 /// A number with which all that is lent is zero afterwards, and the further result too.
 fn clear(number: u32, at: u64) -> Told {
-    Told { number, at, further: Some(0), words: Some(Vec::new()), lengths: Some(Vec::new()), bytes: Some(Vec::new()) }
+    let none = || Some(Vec::new());
+    Told { further: Some(0), words: none(), lengths: none(), bytes: Some(Vec::new()), ..answer(number, at) }
 }
 
 /// Done, with bodies in variable order and their lengths.
@@ -76,6 +80,7 @@ const NO_ROOM: u32 = 13;
 const DAMAGED: u32 = 14;
 const OVER: u32 = 15;
 const NO_RULE: u32 = 16;
+const CANNOT_TAKE: u32 = rosenduch::CANNOT_TAKE;
 
 fn edge(name: impl Into<String>, case: Case, told: Told) -> Edge {
     Edge { name: name.into(), case, told }
@@ -98,9 +103,15 @@ impl Told {
         Told { further: Some(further), ..self }
     }
 
+    /// So many arguments are set aside.
+    fn aside(self, aside: u32) -> Told {
+        Told { aside, ..self }
+    }
+
     fn is(&self, outcome: &Outcome) -> bool {
         (self.number, self.at) == (outcome.number, outcome.at)
             && self.further.is_none_or(|further| further == outcome.further)
+            && self.aside == outcome.aside
             && holds(&outcome.words, &self.words)
             && holds(&outcome.lengths, &self.lengths)
             && holds(&outcome.bytes, &self.bytes)
@@ -118,8 +129,8 @@ impl Edge {
         if self.told.is(outcome) {
             return Ok(());
         }
-        let Told { number, at, further, words, lengths, bytes } = &self.told;
-        let given = format!("{number} at {at}, further {further:?}, words {words:?}, lengths {lengths:?}, bytes {bytes:?}");
+        let Told { number, at, further, aside, words, lengths, bytes } = &self.told;
+        let given = format!("{number} at {at}, further {further:?}, aside {aside}, words {words:?}, lengths {lengths:?}, bytes {bytes:?}");
         Err(format!("given: {given}\ncame:  {outcome}"))
     }
 }
@@ -137,8 +148,10 @@ pub fn all() -> Result<Vec<Edge>, String> {
         compiling::edges(),
         walking::edges(),
         damage::edges(),
+        front::edges(),
         rewriting::edges(),
         simplifying::edges(),
+        taking::edges(),
         repairing::edges(),
     ]);
     let mut names = BTreeSet::new();

@@ -50,7 +50,7 @@ fn asks_closed(d: u32, list: &[u32]) -> Vec<u32> {
     }
     tree.extend([3, d + 1, k]);
     tree.extend(list);
-    tree.extend([leaf, fail, 0, 1, YES, 0]);
+    tree.extend([leaf, fail, 0, 1, YES, 0, 0]);
     tree
 }
 

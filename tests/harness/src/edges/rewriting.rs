@@ -16,17 +16,15 @@ pub const UNDER: Rule = (1, "s1.1 m0.0", "l m0.0");
 pub const CHAIN: [Rule; 2] = [(0, "s1.0", "s2.0"), (0, "s2.0", "s3.0")];
 
 /// A tree for them, whose node for `s3.0` has a tag of 9.
-pub const CRACKED: &str = "2 0 3 s1.0 10 s2.0 13 s3.0 16 17 1 0 0 1 1 0 9 0";
+pub const CRACKED: &str = "2 0 3 s1.0 10 s2.0 14 s3.0 18 19 1 0 0 0 1 1 0 0 9 0";
 
-/// The tree of a book, in a slice of 64 words with zeros after it.
-pub fn tree_in_64(book: &[u32]) -> Vec<u32> {
-    let mut tree = gen::compiled(book);
-    tree.resize(64, 0);
-    tree
+/// The tree of a book, with zeros after it.
+pub fn tree_and_zeros(book: &[u32]) -> Vec<u32> {
+    [gen::compiled(book), vec![0; 13]].concat()
 }
 
 fn at_root(name: &str, book: &[u32], term: &str, room: usize, told: Told) -> Edge {
-    edge(name, Case::RewriteRoot { book: book.to_vec(), tree: tree_in_64(book), term: words(term), room }, told)
+    edge(name, Case::RewriteRoot { book: book.to_vec(), tree: tree_and_zeros(book), term: words(term), room }, told)
 }
 
 fn rewritten() -> Vec<Edge> {
@@ -49,7 +47,7 @@ fn refusals() -> Vec<Edge> {
         refused("over id 65,535", &under, "s1.1 v65535", OVER, 0),
         refused("one word short", &double, "s1.1 s7.0", NO_ROOM, 0),
         refused("a bad term", &double, "s1.1", BAD_TERM, 1),
-        edge("a damaged tree", cracked, clear(DAMAGED, 16)),
+        edge("a damaged tree", cracked, clear(DAMAGED, 18)),
     ]
 }
 

@@ -1,6 +1,6 @@
 //! Simplifying: document 01's terms, budgets, room, growth over each limit, a damaged tree, refusals.
 
-use super::rewriting::{tree_in_64, CHAIN, CRACKED, DOUBLE, UNDER};
+use super::rewriting::{tree_and_zeros, CHAIN, CRACKED, DOUBLE, UNDER};
 use super::words::{book, book_a, words};
 use super::{answer, clear, done, edge, flat, Edge, Told, BAD_BOOK, BAD_TERM, DAMAGED, NO_ROOM, OVER};
 use crate::case::Case;
@@ -10,7 +10,7 @@ const SECOND: &str = "s3.1 l s4.1 s4.1 v1";
 
 /// With the book's own tree, and room for eight words.
 fn by_book(name: &str, book: &[u32], term: &str, budget: u16, told: Told) -> Edge {
-    edge(name, Case::Simplify { book: book.to_vec(), tree: tree_in_64(book), term: words(term), budget, room: 8 }, told)
+    edge(name, Case::Simplify { book: book.to_vec(), tree: tree_and_zeros(book), term: words(term), budget, room: 8 }, told)
 }
 
 /// Done after so many steps, with this result.
@@ -71,8 +71,8 @@ fn growing() -> Vec<Edge> {
 fn damaged() -> Vec<Edge> {
     let no_tree = Case::Simplify { book: book(&CHAIN), tree: Vec::new(), term: words("s1.0"), budget: 1, room: 3 };
     vec![
-        cracked("damage met at the third step", "s1.0", 9, 3, refused(2, DAMAGED, 16)),
-        cracked("damage met with the budget used", "s1.0", 2, 3, refused(2, DAMAGED, 16)),
+        cracked("damage met at the third step", "s1.0", 9, 3, refused(2, DAMAGED, 18)),
+        cracked("damage met with the budget used", "s1.0", 2, 3, refused(2, DAMAGED, 18)),
         cracked("damage not met yet", "s1.0", 1, 3, used(1, "s2.0")),
         edge("no tree", no_tree, refused(0, DAMAGED, 0)),
     ]

@@ -2,7 +2,7 @@
 
 use second::gen;
 
-use super::compiling::{TREE_A, TREE_B};
+use super::compiling::{tree_a, tree_b};
 use super::words::{book, words};
 use super::{clear, edge, fits, Edge, BAD_TERM, NONE_FITS};
 use crate::case::Case;
@@ -42,17 +42,15 @@ fn marked(tree: &[u32], table: &[Marked]) -> Vec<Edge> {
 }
 
 fn refusals() -> Vec<Edge> {
-    let bad = |name: &str, tree: &str, term: &str, at| {
-        edge(name, Case::MatchTree { tree: words(tree), term: words(term), room: 3 }, clear(BAD_TERM, at))
-    };
-    vec![bad("a bad term", TREE_A, "s2.2 s7.0 v0", 2), bad("a bad term, and a damaged tree", "5", "s2.2 s7.0", 2)]
+    let bad =
+        |name: &str, tree: Vec<u32>, term: &str, at| edge(name, Case::MatchTree { tree, term: words(term), room: 3 }, clear(BAD_TERM, at));
+    vec![bad("a bad term", tree_a(), "s2.2 s7.0 v0", 2), bad("a bad term, and a damaged tree", vec![5], "s2.2 s7.0", 2)]
 }
 
 pub fn edges() -> Vec<Edge> {
-    let mut with_zeros = words(TREE_B);
-    with_zeros.resize(64, 0);
+    let with_zeros = [tree_b(), vec![0; 51]].concat();
     let exchanged = book(&[(1, "s2.2 m0.0 m0.0", "m0.0"), (1, "s3.1 l s4.1 m0.1 v1", "s4.1 s3.1 l m0.1 v1"), (1, "s3.1 l m0.0", "m0.0")]);
-    let mut edges = marked(&words(TREE_A), &A);
+    let mut edges = marked(&tree_a(), &A);
     edges.extend(marked(&with_zeros, &B));
     edges.extend(marked(&gen::compiled(&exchanged), &EXCHANGED));
     edges.extend(refusals());

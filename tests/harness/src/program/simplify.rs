@@ -12,7 +12,7 @@ use crate::edges::BOOK_A;
 const LIMIT: usize = 65_536;
 
 const TERMS: &str = "term=s2.2 s3.1 l s7.0 s7.0\nterm=s3.1 l s4.1 s4.1 v1\n";
-const PRINTED: &str = "book=1\nrules=3\ntree=51\n\
+const PRINTED: &str = "book=1\nrules=3\ntree=725\n\
     term=0\nanswer=0\nsteps=2\nresult=s7.0\n\
     term=1\nanswer=0\nsteps=2\nresult=s4.1 s4.1 s3.1 l v1\n";
 
@@ -56,6 +56,13 @@ fn of_rules(number: u32) -> Vec<u8> {
     file
 }
 
+/// A rule that writes its variable, and terms of which what is written takes the arguments set aside, or cannot.
+const FRONT: &str = "book=1\nrules=1\nrule=0\nvars=1\nleft=s3.1 m0.0\nright=m0.0\n\
+    term=s3.2 s4.1 s7.0 s8.0\n\
+    term=s5.2 s3.1 s7.0 s3.3 l v1 s7.0 s7.0\n\
+    term=s3.15 s4.1 s7.0 v1 v1 v1 v1 v1 v1 v1 v1 v1 v1 v1 v1 v1 v1\n\
+    term=s3.15 s4.2 s7.0 s7.0 v1 v1 v1 v1 v1 v1 v1 v1 v1 v1 v1 v1 v1 v1\n";
+
 fn edges() -> Vec<(String, Vec<u8>)> {
     let mut rng = Rng::new(1);
     let of = |term: Vec<u32>| book_a_with(&[term_line(&term)]);
@@ -69,6 +76,7 @@ fn edges() -> Vec<(String, Vec<u8>)> {
         ("a file of 65,536 bytes", file_of(LIMIT)),
         ("a file of 65,537 bytes", file_of(LIMIT + 1)),
         ("a file of 1,000,000 bytes", file_of(1_000_000)),
+        ("arguments set aside", FRONT.into()),
         ("an empty file", Vec::new()),
         ("no term line", book_a_with(&[])),
         ("no line's end", BOOK_A.trim_end().as_bytes().to_vec()),
