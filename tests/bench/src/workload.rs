@@ -210,6 +210,13 @@ fn nothing_fits() -> Workload {
     Workload::simplify("a large term where nothing fits", &book_a(), vec![joined(vec![part; 1_024])])
 }
 
+/// 800 parts that a rule for one argument fits, with two set aside each: a step for each.
+fn set_aside() -> Workload {
+    let rules = [rule(1, &[symbol(6, 1), X], &[symbol(9, 1), X])];
+    let part = [symbol(6, 3), S7, V1, symbol(8, 0)].to_vec();
+    Workload::simplify("800 steps, two arguments set aside in each", &rules, vec![joined(vec![part; 800])])
+}
+
 /// The first seeded book of 64 rules whose tree has at least so many words.
 fn large_book(least: usize) -> Workload {
     let mut seed = 0;
@@ -222,6 +229,12 @@ fn large_book(least: usize) -> Workload {
         }
         seed += 1;
     }
+}
+
+/// As many symbols as there can be rules, without arguments: a root case for each of them and each count.
+fn root_cases() -> Workload {
+    let rules: Vec<_> = (0..64).map(|id| rule(0, &[symbol(id, 0)], &[S7])).collect();
+    Workload::compile("compiling 64 rules, 1,024 root cases", gen::book_words(&rules))
 }
 
 /// So many of the shortest rules, of which none is sound.
@@ -245,5 +258,16 @@ pub fn growing() -> (Workload, Workload) {
 
 pub fn workloads() -> Vec<Workload> {
     let (most_rules, _) = growing();
-    vec![small_terms(500), wide_term(), deep_terms(), binders(), nothing_fits(), large_book(4_000), most_rules, sound_book()]
+    vec![
+        small_terms(500),
+        wide_term(),
+        deep_terms(),
+        binders(),
+        set_aside(),
+        nothing_fits(),
+        large_book(4_000),
+        root_cases(),
+        most_rules,
+        sound_book(),
+    ]
 }

@@ -175,6 +175,20 @@ fn damaged_by_book() -> Vec<Edge> {
     ]
 }
 
+/// In simplifying too, where each offset is walked: below `s5`, the Leaf sets one argument of `s3` aside.
+fn damaged_in_steps() -> Vec<Edge> {
+    let book = book(&[(0, "s3.1 s7.0", "s9.0")]);
+    let tree = words("2 0 4 s3.1 12 s3.2 16 s3.3 16 0 20 20 1 0 0 0 1 0 0 1 0");
+    let by_tree = |name: &str, term: &str, told| {
+        edge(name, Case::Simplify { book: book.clone(), tree: tree.clone(), term: words(term), budget: 9, room: 9 }, told)
+    };
+    let new = done(words("s5.2 s9.0 s9.1 s8.0")).further(2);
+    vec![
+        by_tree("one of two set aside, after none of one", "s5.2 s3.1 s7.0 s3.2 s7.0 s8.0", new),
+        by_tree("one of three set aside, after none of one", "s5.2 s3.1 s7.0 s3.3 s7.0 s8.0 s8.0", clear(DAMAGED, 16).further(1)),
+    ]
+}
+
 pub fn edges() -> Vec<Edge> {
-    flat([fronts(), asked(), counts(), rooms(), lowest(), damaged_alone(), damaged_by_book()])
+    flat([fronts(), asked(), counts(), rooms(), lowest(), damaged_alone(), damaged_by_book(), damaged_in_steps()])
 }
