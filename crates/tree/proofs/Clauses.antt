@@ -3,13 +3,17 @@ use mathlib.Core.Path.{_≡_, refl}
 use mathlib.Core.List.{List, [], _∷_, _++_}
 use Prim.Native.Nat.{ℕ, suc}
 use mathlib.Core.Bool.{true, false}
-use Rattle.term.specs.Word.{Head}
+use Rattle.term.specs.Word.{Head, count}
 use Rattle.term.specs.Row.{Row, nothing, node}
 use Rattle.term.specs.Renumber.{inside}
 use Rattle.fit.specs.Constraint.{childrenOf, bodyHere}
 use lib.ListN.{length}
 use Rattle.tree.specs.Tree.{LeafVariable, countsOf}
-use Rattle.tree.specs.Find.{PartAt, partOf, markedPart, childParts, insideOf, enterPart, bodyFor, bodyOr, leafBody}
+use Rattle.tree.specs.Find.{PartAt, rootCount, partOf, markedPart, childParts, insideOf, enterPart, bodyFor, bodyOr, leafBody}
+
+pub root-count : (h : Head) (kids rest : Row) → rootCount (node h kids rest) ≡ count h
+unfolding rootCount
+root-count h kids rest = refl
 
 pub part-first : (p : PartAt) (ps : List PartAt) → partOf 0 (p ∷ ps) ≡ p
 unfolding partOf

@@ -15,6 +15,7 @@ pub use Rattle.tree.proofs.RootWays.{book-walks}
 pub use Rattle.tree.proofs.Totals.{length-total, total-entered, total-root}
 -- Uncovered places: the clauses of their definitions.
 pub use Rattle.tree.proofs.Clauses.{part-first, part-later, marked-none, marked-first, marked-later, child-parts-none, child-parts-more, inside-of, enter-is, body-for-is, leaf-first, leaf-later, counts-none, counts-first}
+pub use Rattle.tree.proofs.Clauses.{root-count}
 -- Each uncovered part of a term is one term, and a sound Leaf gives its variables bodies.
 pub use Rattle.tree.proofs.TermParts.{part-root, AllTerms, terms-root, terms-entered, leaf-terms}
 -- ---- for the compiler
