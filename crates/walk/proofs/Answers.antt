@@ -8,25 +8,38 @@ use lib.ListN.{length, getD, replicate, drop, length-drop}
 use lib.Seq.{drop-drop}
 use borrow.Author.Tests.{le-leb, lt-leb}
 use Rattle.term.specs.declared.check.Checked.the-variants.{Good, Bad}
+use Rattle.term.specs.declared.answer.Answer.{Answer}
 use Rattle.term.specs.declared.answer.Answer.the-variants as answer
 use Rattle.term.specs.Answer.{answered}
+use Rattle.term.specs.Word.{countOf}
 use Rattle.term.specs.Row.{Row, nothing, words, width}
 use Rattle.term.specs.Check.{IsTerm, check, termLimits}
 use Rattle.term.proofs.Laws.{good-tree, term-part, part-begins, words-node}
 use Rattle.fit.specs.Match.{treeOf, refused}
-use Rattle.fit.proofs.Laws.{tree-of, refused-leaves}
+use Rattle.fit.proofs.Laws.{tree-of, refused-leaves, refused-aside, fitted-aside}
 use Rattle.tree.specs.Tree.{LeafNode}
-use Rattle.tree.specs.Find.{rootPart}
+use Rattle.tree.specs.Find.{rootCount, rootPart}
 use Rattle.walk.specs.Walk.{NoneFits, DamagedAt, walkFrom, walk, noBook}
 use Rattle.walk.specs.declared.state.Walk.{Walk}
 use Rattle.walk.specs.declared.by_tree.TreeMatch.{TreeMatch}
-use Rattle.walk.specs.told.State.{partFrom, placesOf, Parted, Holds, leafRule, LeafSound, LeafFound, Stood, Standing, WalkTold, walkedHere, walkedGives, LeafWritten}
-use Rattle.walk.specs.ByTree.{matchTree, matchTreeRule, MatchTreeOutcome, matchTreeCame, matchTreeGives}
+use Rattle.walk.specs.told.State.{partFrom, placesOf, Parted, Holds, leafRule, LeafSound, LeafFound, Stood, Standing, WalkTold, walkedHere, walkedGives, FindsNone, LeafWritten}
+use Rattle.walk.specs.ByTree.{matchTree, matchTreeRule, MatchTreeOutcome, matchTreeCame, ruleGives, matchTreeGives}
 use Rattle.walk.proofs.Uncovered.{one-tree}
 use Rattle.walk.proofs.Outcomes.{rule-came}
+use Rattle.walk.proofs.RootCounts.{part-counts}
+
+-- ---- where no rule is found, cleared outputs are what is left
+refuses : (room : ℕ) (bodies lengths : List ℕ) (r : TreeMatch) → bodies ≡ replicate room 0 → lengths ≡ replicate 16 0 → (a : Answer) → FindsNone a r
+    → matchTreeCame (answered (r .answer)) (r .rule) (r .aside) bodies lengths ≡ ruleGives room (refused a) 0
+refuses room bodies lengths r b l a f =
+    let q = refused-leaves room a bodies lengths b l in
+    rule-came (r .answer) (r .rule) (r .aside) bodies lengths room (refused a) 0 (f .0 ∙ q .0) (f .1) (f .2 ∙ sym (refused-aside room a)) (q .1) (q .2)
 
 -- ---- how the walk ended
 module _ (table term : List ℕ) (s : Walk) (t : WalkTold table term s) where
+  abbrev asked : LeafNode → Bool
+  asked = noBook (rootCount (partFrom term 0))
+
   pub ended-holds : Holds term s
   unfolding WalkTold Standing
   ended-holds = t .0 .0
@@ -64,29 +77,49 @@ module _ (table term : List ℕ) (s : Walk) (t : WalkTold table term s) where
     pub ended-sound : LeafSound table term s
     ended-sound = ended-leaf .leaf
 
-    ended-rule : walkedHere table term ≡ leafRule table (placesOf term s) (s .at)
-    unfolding noBook
-    ended-rule = ended-leaf .ends noBook
+    module _ (parted : Parted term) (some-words : 0 < length term) (a : ℕ) (arguments : a ≡ countOf (getD term 0 0)) where
+      root-counts : rootCount (partFrom term 0) ≡ a
+      root-counts = sym (arguments ∙ part-counts term parted some-words)
+
+      ended-over : a < getD table (s .at + 3) 0 → walkedHere table term ≡ DamagedAt (s .at)
+      unfolding noBook
+      ended-over l = ended-leaf .ends asked ∙ rw (root-counts, lt-leb (getD table (s .at + 3) 0) a l)
+
+      ended-rule : getD table (s .at + 3) 0 ≤ a → walkedHere table term ≡ leafRule table (placesOf term s) (s .at)
+      unfolding noBook
+      ended-rule l = ended-leaf .ends asked ∙ rw (root-counts, le-leb (getD table (s .at + 3) 0) a l)
 
   -- ---- what is answered and left
-  module _ (room : ℕ) (bodies lengths : List ℕ) where
+  module _ (room : ℕ) (bodies lengths : List ℕ) (r : TreeMatch) where
+    abbrev Gives : Type 0
+    Gives = matchTreeCame (answered (r .answer)) (r .rule) (r .aside) bodies lengths ≡ walkedGives room (walkedHere table term)
+
     module _ (b : bodies ≡ replicate room 0) (l : lengths ≡ replicate 16 0) where
-      pub match-none : s .stands ≡ 1 → (r : TreeMatch) → r .answer ≡ answer.NoFit → r .rule ≡ 0 → matchTreeCame (answered (r .answer)) (r .rule) bodies lengths ≡ walkedGives room (walkedHere table term)
+      pub match-none : s .stands ≡ 1 → FindsNone answer.NoFit r → Gives
       unfolding walkedGives
-      match-none z r a u = let q = refused-leaves room answer.NoFit bodies lengths b l in rw (ended-none z noBook) (rule-came (r .answer) (r .rule) bodies lengths room (refused answer.NoFit) 0 (a ∙ q .0) u (q .1) (q .2))
+      match-none z f = rw (ended-none z asked) (refuses room bodies lengths r b l answer.NoFit f)
 
-      pub match-damaged : (s .stands ≡ 1 → ⊥) → (s .stands ≡ 2 → ⊥) → (r : TreeMatch) → r .answer ≡ answer.Damaged (s .at) → r .rule ≡ 0 → matchTreeCame (answered (r .answer)) (r .rule) bodies lengths ≡ walkedGives room (walkedHere table term)
+      pub match-damaged : (s .stands ≡ 1 → ⊥) → (s .stands ≡ 2 → ⊥) → FindsNone (answer.Damaged (s .at)) r → Gives
       unfolding walkedGives
-      match-damaged y z r a u = let q = refused-leaves room (answer.Damaged (s .at)) bodies lengths b l in rw (ended-damaged y z noBook) (rule-came (r .answer) (r .rule) bodies lengths room (refused (answer.Damaged (s .at))) 0 (a ∙ q .0) u (q .1) (q .2))
+      match-damaged y z f = rw (ended-damaged y z asked) (refuses room bodies lengths r b l (answer.Damaged (s .at)) f)
 
-    pub match-short : s .stands ≡ 2 → (fits : Bool) → fits ≡ false → LeafWritten table term s room bodies lengths fits → (r : TreeMatch) → r .answer ≡ answer.Short → r .rule ≡ 0 → matchTreeCame (answered (r .answer)) (r .rule) bodies lengths ≡ walkedGives room (walkedHere table term)
-    unfolding walkedGives LeafWritten
-    match-short z fits f w r a u = rw (ended-rule z) (rule-came (r .answer) (r .rule) bodies lengths room _ _ (a ∙ rw f at (w .1)) (rw (w .0, f) u) (w .2) (w .3))
+      pub match-over : s .stands ≡ 2 → Parted term → 0 < length term → (a : ℕ) → a ≡ countOf (getD term 0 0) → a < getD table (s .at + 3) 0 → FindsNone (answer.Damaged (s .at)) r → Gives
+      unfolding walkedGives
+      match-over z p n a c k f = rw (ended-over z p n a c k) (refuses room bodies lengths r b l (answer.Damaged (s .at)) f)
 
-    pub match-done : s .stands ≡ 2 → (fits : Bool) → fits ≡ true → LeafWritten table term s room bodies lengths fits → (r : TreeMatch) → r .answer ≡ answer.Done → r .rule ≡ getD table (s .at + 1) 0
-        → matchTreeCame (answered (r .answer)) (r .rule) bodies lengths ≡ walkedGives room (walkedHere table term)
-    unfolding walkedGives LeafWritten
-    match-done z fits f w r a u = rw (ended-rule z) (rule-came (r .answer) (r .rule) bodies lengths room _ _ (a ∙ rw f at (w .1)) (rw (w .0, f) u) (w .2) (w .3))
+    module _ (z : s .stands ≡ 2) (parted : Parted term) (some-words : 0 < length term) (a : ℕ) (arguments : a ≡ countOf (getD term 0 0)) (within : getD table (s .at + 3) 0 ≤ a) (fits : Bool)
+        (w : LeafWritten table term s room bodies lengths fits) where
+      pub match-short : fits ≡ false → FindsNone answer.Short r → Gives
+      unfolding walkedGives LeafWritten
+      match-short f u =
+          rw (ended-rule z parted some-words a arguments within)
+          (rule-came (r .answer) (r .rule) (r .aside) bodies lengths room _ _ (u .0 ∙ rw f at (w .1)) (rw (w .0, f) (u .1)) (u .2 ∙ sym (fitted-aside room _ _ _ false (w .0 ∙ f))) (w .2) (w .3))
+
+      pub match-done : fits ≡ true → r .answer ≡ answer.Done → r .rule ≡ getD table (s .at + 1) 0 → r .aside ≡ getD table (s .at + 3) 0 → Gives
+      unfolding walkedGives LeafWritten
+      match-done f y u v =
+          rw (ended-rule z parted some-words a arguments within)
+          (rule-came (r .answer) (r .rule) (r .aside) bodies lengths room _ _ (y ∙ rw f at (w .1)) (rw (w .0, f) u) (v ∙ sym (fitted-aside room _ _ _ true (w .0 ∙ f))) (w .2) (w .3))
 
 -- ---- the words of a term from an offset on
 pub tail-parted : (ws : List ℕ) → IsTerm ws → (at : ℕ) → Parted (drop at ws)
@@ -123,13 +156,12 @@ module _ (table ws : List ℕ) (room : ℕ) where
     unfolding matchTree matchTreeRule walkedGives matchTreeGives
     match-walked l o w = rw (good, walk-here l) w
 
-  module _ (bodies lengths : List ℕ) (b : bodies ≡ replicate room 0) (l : lengths ≡ replicate 16 0) (r : TreeMatch) (u : r .rule ≡ 0) where
-    pub match-bad-term : (at : ℕ) → check termLimits ws ≡ Bad at → r .answer ≡ answer.BadTerm at
-        → matchTreeCame (answered (r .answer)) (r .rule) bodies lengths ≡ matchTreeGives table ws room
+  module _ (bodies lengths : List ℕ) (r : TreeMatch) (b : bodies ≡ replicate room 0) (l : lengths ≡ replicate 16 0) where
+    pub match-bad-term : (at : ℕ) → check termLimits ws ≡ Bad at → FindsNone (answer.BadTerm at) r → matchTreeCame (answered (r .answer)) (r .rule) (r .aside) bodies lengths ≡ matchTreeGives table ws room
     unfolding matchTree matchTreeRule matchTreeGives
-    match-bad-term at e a = let q = refused-leaves room (answer.BadTerm at) bodies lengths b l in rw e (rule-came (r .answer) (r .rule) bodies lengths room (refused (answer.BadTerm at)) 0 (a ∙ q .0) u (q .1) (q .2))
+    match-bad-term at e f = rw e (refuses room bodies lengths r b l (answer.BadTerm at) f)
 
-    pub match-long : check termLimits ws ≡ Good → 16384 < length table → r .answer ≡ answer.Damaged 16384
-        → matchTreeCame (answered (r .answer)) (r .rule) bodies lengths ≡ matchTreeGives table ws room
+    pub match-long : check termLimits ws ≡ Good → 16384 < length table → FindsNone (answer.Damaged 16384) r
+        → matchTreeCame (answered (r .answer)) (r .rule) (r .aside) bodies lengths ≡ matchTreeGives table ws room
     unfolding matchTree matchTreeRule matchTreeGives walk
-    match-long e k a = let q = refused-leaves room (answer.Damaged 16384) bodies lengths b l in rw (e, lt-leb (length table) 16384 k) (rule-came (r .answer) (r .rule) bodies lengths room (refused (answer.Damaged 16384)) 0 (a ∙ q .0) u (q .1) (q .2))
+    match-long e k f = rw (e, lt-leb (length table) 16384 k) (refuses room bodies lengths r b l (answer.Damaged 16384) f)

@@ -8,13 +8,14 @@ use lib.Dec.{eqb}
 use lib.ListN.{length, getD, drop, replicate, length-append, length-drop}
 use lib.Seq.{drop-cons, getD-drop}
 use borrow.Author.Tests.{le-leb, lt-leb}
-use Rattle.term.specs.Word.{word, pick}
+use Rattle.term.specs.Word.{word, countOf, pick}
 use Rattle.term.specs.Row.{Row, nothing, words}
 use Rattle.term.proofs.Laws.{words-node}
 use Rattle.fit.specs.Fit.{IsBody}
 use Rattle.fit.specs.Match.{bodyList}
 use Rattle.fit.proofs.Laws.{bodies-none, bodies-more, fitted-room}
-use Rattle.tree.specs.Find.{rootPart, leafBody}
+use Rattle.tree.specs.Tree.{LeafNode}
+use Rattle.tree.specs.Find.{rootCount, rootPart, leafBody}
 use Rattle.walk.specs.Walk.{Walked, NoneFits, RuleFits, DamagedAt, variablesIn, isWord, walkFrom, walk, bookFits}
 use Rattle.walk.specs.told.Taken.{CaseTold}
 use Rattle.walk.specs.declared.taken.Taken.the-variants.{Not}
@@ -28,6 +29,7 @@ use Rattle.walk.proofs.Answers.{ended-none, ended-damaged, ended-leaf, 
 use Rattle.walk.proofs.Sound.{FoundSound, walk-sound}
 use Rattle.walk.proofs.Skips.{no-case}
 use Rattle.walk.proofs.BookLeaf.{judged-by}
+use Rattle.walk.proofs.RootCounts.{part-counts}
 
 -- ---- the root of the tree
 module _ (table : List ℕ) (w : ℕ) (long : 3 ≤ length table) (tag : getD table 0 0 ≡ 2) (place : getD table 1 0 ≡ 0) where
@@ -46,7 +48,7 @@ module _ (table : List ℕ) (w : ℕ) (long : 3 ≤ length table) (tag : getD ta
   pub skips-root : 2 * cases < length table - 3 → (default ≡ 0 → ⊥) → default < length table → getD table default 0 ≡ 0 → CaseTold w cases (drop 3 table) Not → SkipTold table w true
   skips-root room later inside fail none-taken fits t is short =
       let d : getD (drop 3 table) (2 * cases) 0 ≡ default = getD-drop 3 table (2 * cases) 0 in
-      no-case fits table t cases (drop 3 table) root-is (rw (length-drop 3 table) room) (sym (none-taken t is)) short
+      no-case table t cases (drop 3 table) root-is (rw (length-drop 3 table) room) (sym (none-taken t is)) fits short
       (rw d (omega (arith, later))) (rw d inside) (rw d fail)
 
 -- ---- the part that the words begin with
@@ -84,7 +86,10 @@ sixteen-room b n few i = omega (arith, few, bodies-room b 0 n (λ y l m. i y (om
 
 -- ---- what is answered and left
 module _ (book table ws : List ℕ) (short : length table ≤ 16384) where
-  walk-here : bookWalk book table ws ≡ walkFrom (bookFits book) table 0 (rootPart (partFrom ws 0))
+  abbrev asked : LeafNode → Bool
+  asked = bookFits book (rootCount (partFrom ws 0))
+
+  walk-here : bookWalk book table ws ≡ walkFrom asked table 0 (rootPart (partFrom ws 0))
   unfolding walk
   walk-here = rw (le-leb (length table) 16384 short)
 
@@ -92,26 +97,26 @@ module _ (book table ws : List ℕ) (short : length table ≤ 16384) where
     module _ (b : bodies ≡ replicate 65536 0) (l : lengths ≡ replicate 16 0) where
       pub with-none : s .stands ≡ 1 → r ≡ found.None → BookWalked (bookWalk book table ws) r bodies lengths
       unfolding BookWalked
-      with-none z e = rw (walk-here ∙ ended-none table ws s t z (bookFits book)) (e, b, l)
+      with-none z e = rw (walk-here ∙ ended-none table ws s t z asked) (e, b, l)
 
       pub with-damaged : (s .stands ≡ 1 → ⊥) → (s .stands ≡ 2 → ⊥) → r ≡ found.Damaged (s .at) → BookWalked (bookWalk book table ws) r bodies lengths
       unfolding BookWalked
-      with-damaged y z e = rw (walk-here ∙ ended-damaged table ws s t y z (bookFits book)) (e, b, l)
+      with-damaged y z e = rw (walk-here ∙ ended-damaged table ws s t y z asked) (e, b, l)
 
-    module _ (z : s .stands ≡ 2) where
-      ended-here : bookWalk book table ws ≡ pick (leafFits book table (s .at)) (leafRule table (placesOf ws s) (s .at)) (DamagedAt (s .at))
+    module _ (z : s .stands ≡ 2) (parted : Parted ws) (some-words : 0 < length ws) (a : ℕ) (arguments : a ≡ countOf (getD ws 0 0)) where
+      ended-here : bookWalk book table ws ≡ pick (leafFits book a table (s .at)) (leafRule table (placesOf ws s) (s .at)) (DamagedAt (s .at))
       unfolding leafFits
       ended-here =
           let f = ended-leaf table ws s t z in
-          walk-here ∙ f .ends (bookFits book)
-          ∙ ap (λ (b : Bool). pick b (leafRule table (placesOf ws s) (s .at)) (DamagedAt (s .at)))
-          (judged-by book (getD table (s .at + 1) 0) (placesOf ws s) (variablesIn (getD table (s .at + 2) 0) (drop (s .at + 3) table)) (f .leaf .sound))
+          walk-here ∙ f .ends asked ∙ rw (← (arguments ∙ part-counts ws parted some-words))
+          (ap (λ (b : Bool). pick b (leafRule table (placesOf ws s) (s .at)) (DamagedAt (s .at)))
+          (judged-by book a (getD table (s .at + 1) 0) (getD table (s .at + 3) 0) (placesOf ws s) (variablesIn (getD table (s .at + 2) 0) (drop (s .at + 4) table)) (f .leaf .sound)))
 
-      pub with-unfit : bodies ≡ replicate 65536 0 → lengths ≡ replicate 16 0 → leafFits book table (s .at) ≡ false → r ≡ found.Damaged (s .at) → BookWalked (bookWalk book table ws) r bodies lengths
+      pub with-unfit : bodies ≡ replicate 65536 0 → lengths ≡ replicate 16 0 → leafFits book a table (s .at) ≡ false → r ≡ found.Damaged (s .at) → BookWalked (bookWalk book table ws) r bodies lengths
       unfolding BookWalked
       with-unfit b l f e = rw (ended-here, f) (e, b, l)
 
-      module _ (parted : Parted ws) (some-words : 0 < length ws) (f : leafFits book table (s .at) ≡ true) where
+      module _ (f : leafFits book a table (s .at) ≡ true) where
         abbrev vars : ℕ
         vars = getD table (s .at + 2) 0
 
@@ -123,13 +128,13 @@ module _ (book table ws : List ℕ) (short : length table ≤ 16384) where
 
         body-terms : (x : ℕ) → x < vars → IsBody (body x)
         body-terms =
-            let q : FoundSound (bookFits book) (leafRule table (placesOf ws s) (s .at)) = rw found-here at (walk-sound (bookFits book) table (partFrom ws 0) (parted-body ws parted some-words)) in
+            let q : FoundSound asked (leafRule table (placesOf ws s) (s .at)) = rw found-here at (walk-sound (bookFits book) table (partFrom ws 0) (parted-body ws parted some-words)) in
             q .3
 
         pub with-rule : (room : ℕ) → room ≡ 65536 → (fits : Bool) → LeafWritten table ws s room bodies lengths fits → r ≡ found.Rule (getD table (s .at + 1) 0) → BookWalked (bookWalk book table ws) r bodies lengths
         unfolding BookWalked LeafWritten
         with-rule room u fits w e =
-            let q = fitted-room 65536 vars body (sixteen-room body vars (ended-sound table ws s t z .few) body-terms) in
+            let q = fitted-room 65536 vars (leafIn table (s .at) .aside) body (sixteen-room body vars (ended-sound table ws s t z .few) body-terms) in
             rw found-here (e, w .2 ∙ rw u (q .1), w .3 ∙ rw u (q .2))
 
 -- ---- before the walk

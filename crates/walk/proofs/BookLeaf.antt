@@ -1,4 +1,5 @@
--- A Leaf fits the book where the rule is there, has as many variables, and each count is that of the left side: the variables left give the answer.
+-- A Leaf fits the book where the rule is there, has as many variables, just what the root has more is set aside, and each count is that of the left side:
+-- the variables left give the answer.
 use mathlib.Core.Path.{_≡_, refl, sym, ap, _∙_}
 use mathlib.Core.Bool.{Bool, true, false, _&&_}
 use mathlib.Core.List.{List, []}
@@ -19,7 +20,7 @@ use Rattle.book.proofs.Laws.{sides-rule, sides-none}
 use Rattle.tree.specs.Tree.{LeafVariable}
 use Rattle.tree.specs.Find.{PartAt}
 use Rattle.tree.proofs.Laws.{counts-none, counts-first}
-use Rattle.walk.specs.Walk.{variableThen, variablesIn, leafRead, countsFit, bookFits}
+use Rattle.walk.specs.Walk.{variableThen, variablesIn, leafRead, countsFit, leftCount, bookFits}
 use Rattle.walk.specs.told.State.{soundLeaf, variablesOr}
 use Rattle.walk.specs.told.WithBook.{countsIn, readFits, leafFits}
 use Rattle.walk.proofs.Sound.{AsMany, as-many}
@@ -80,22 +81,36 @@ module _ (left table : List ℕ) (at x n : ℕ) (some-left : x < n) where
           let z : n - x - 1 ≡ n - (x + 1) = omega arith in
           counts-are ∙ rw (eq-eqb (counted x left) (suc count) (sym e ∙ d), y, z)
 
+-- ---- what is set aside, by the root's count
+module _ (aside count a : ℕ) where
+  pub aside-over : a < aside → false ≡ eqb (aside + count) a
+  aside-over l = sym (ne-eqb (aside + count) a (λ z. omega arith))
+
+  pub aside-other : aside ≤ a → (count ≡ a - aside → ⊥) → false ≡ eqb (aside + count) a
+  aside-other l d = sym (ne-eqb (aside + count) a (λ z. d (omega arith)))
+
+  pub aside-just : aside ≤ a → count ≡ a - aside → true ≡ eqb (aside + count) a
+  aside-just l e = sym (eq-eqb (aside + count) a (omega arith))
+
 -- ---- the rule
-module _ (book table : List ℕ) (at : ℕ) where
+module _ (book : List ℕ) (a : ℕ) (table : List ℕ) (at : ℕ) where
   abbrev rule : ℕ
   rule = getD table (at + 1) 0
 
   abbrev vars : ℕ
   vars = getD table (at + 2) 0
 
-  abbrev read : Option (List LeafVariable)
-  read = variablesIn vars (drop (at + 3) table)
+  abbrev aside : ℕ
+  aside = getD table (at + 3) 0
 
-  pub fits-absent : sidesAt book rule ≡ found.None → false ≡ leafFits book table at
+  abbrev read : Option (List LeafVariable)
+  read = variablesIn vars (drop (at + 4) table)
+
+  pub fits-absent : sidesAt book rule ≡ found.None → false ≡ leafFits book a table at
   unfolding leafFits bookFits
   fits-absent e = go read
     where
-      go : (o : Option (List LeafVariable)) → false ≡ readFits book (leafRead rule o)
+      go : (o : Option (List LeafVariable)) → false ≡ readFits book a (leafRead rule aside o)
       go none = refl
       go (some vs) = rw (sides-none book rule e)
 
@@ -103,27 +118,39 @@ module _ (book table : List ℕ) (at : ℕ) where
     pub fits-sides : (s .left ≤ s .right) × (s .right ≤ length book)
     fits-sides = let q = sides-rule book rule s e .2 in (q .left-first, omega (arith, q .right-next, q .within))
 
-    pub fits-other : (s .vars ≡ vars → ⊥) → false ≡ leafFits book table at
+    pub fits-other : (s .vars ≡ vars → ⊥) → false ≡ leafFits book a table at
     unfolding leafFits bookFits
-    fits-other d = go read (as-many vars (drop (at + 3) table))
+    fits-other d = go read (as-many vars (drop (at + 4) table))
       where
-        go : (o : Option (List LeafVariable)) → AsMany vars o → false ≡ readFits book (leafRead rule o)
+        go : (o : Option (List LeafVariable)) → AsMany vars o → false ≡ readFits book a (leafRead rule aside o)
         go none m = refl
         go (some vs) m =
             let q = sides-rule book rule s e in
             rw (q .1, ne-eqb (length vs) (q .0 .vars) (λ z. d (q .2 .vars-is ∙ sym z ∙ m)))
 
-    pub fits-counts : s .vars ≡ vars → (r : Bool) → r ≡ countsIn (take (s .right - s .left) (drop (s .left) book)) 0 read → r ≡ leafFits book table at
-    unfolding leafFits bookFits
-    fits-counts d r c = c ∙ go read (as-many vars (drop (at + 3) table))
-      where
-        go : (o : Option (List LeafVariable)) → AsMany vars o → countsIn (take (s .right - s .left) (drop (s .left) book)) 0 o ≡ readFits book (leafRead rule o)
-        go none m = refl
-        go (some vs) m =
-            let q = sides-rule book rule s e in
-            rw (q .1, eq-eqb (length vs) (q .0 .vars) (m ∙ sym d ∙ q .2 .vars-is), ← q .2 .left-is)
+    -- the left side is lent, and whether just so many are set aside is told of it
+    module _ (d : s .vars ≡ vars) (left : List ℕ) (l : left ≡ take (s .right - s .left) (drop (s .left) book)) (just : Bool) (j : just ≡ eqb (aside + leftCount left) a) where
+      read-is : (o : Option (List LeafVariable)) → AsMany vars o → readFits book a (leafRead rule aside o) ≡ just && countsIn left 0 o
+      unfolding bookFits
+      read-is none m = none-both just
+        where
+          none-both : (b : Bool) → false ≡ b && false
+          none-both true = refl
+          none-both false = refl
+      read-is (some vs) m =
+          let q = sides-rule book rule s e in
+          rw (q .1, eq-eqb (length vs) (q .0 .vars) (m ∙ sym d ∙ q .2 .vars-is), j, l, q .2 .left-is)
+
+      pub fits-aside : just ≡ false → false ≡ leafFits book a table at
+      unfolding leafFits
+      fits-aside f = sym (read-is read (as-many vars (drop (at + 4) table)) ∙ rw f)
+
+      pub fits-counts : just ≡ true → (r : Bool) → r ≡ countsIn left 0 read → r ≡ leafFits book a table at
+      unfolding leafFits
+      fits-counts f r c = c ∙ sym (read-is read (as-many vars (drop (at + 4) table)) ∙ rw f)
 
 -- ---- what a sound Leaf is judged by
-pub judged-by : (book : List ℕ) (rule : ℕ) (ps : List PartAt) (o : Option (List LeafVariable)) → soundLeaf ps o ≡ true → bookFits book (record { rule = rule; variables = variablesOr o }) ≡ readFits book (leafRead rule o)
-judged-by book rule ps none e = never (cc)
-judged-by book rule ps (some vs) e = refl
+pub judged-by : (book : List ℕ) (a rule aside : ℕ) (ps : List PartAt) (o : Option (List LeafVariable)) → soundLeaf ps o ≡ true
+    → bookFits book a (record { rule = rule; aside = aside; variables = variablesOr o }) ≡ readFits book a (leafRead rule aside o)
+judged-by book a rule aside ps none e = never (cc)
+judged-by book a rule aside ps (some vs) e = refl

@@ -14,21 +14,21 @@ use Rattle.fit.specs.Left.{leftOf}
 use Rattle.fit.specs.Constraint.{childrenOf, isHead, bodyHere}
 use Rattle.fit.specs.Match.{treeOf, leftIn, bodyList}
 use Rattle.tree.specs.Tree.{countsOf, LeafNode}
-use Rattle.tree.specs.Find.{partOf, markedPart, childParts, insideOf, enterPart, bodyFor, leafBody}
+use Rattle.tree.specs.Find.{rootCount, partOf, markedPart, childParts, insideOf, enterPart, bodyFor, leafBody}
 use Rattle.walk.specs.Walk.{Walked, NoneFits, RuleFits, DamagedAt, goTo, variablesIn, soundVariable, soundVariables, leafNode, isWord, caseOf, switchNode, closedNode, sameNode, nodeAt, nextAt, walkBy, walkFrom, walk, countsFit, bookFits, noBook}
 
--- how a walk ends: the rule and its bodies in words; the address of a damaged node
+-- how a walk ends: the rule, how many arguments are set aside, and its bodies in words; the address of a damaged node
 pub data Seen : Type 0 where
   nothing-fits : Seen
-  rule : ℕ → List ℕ → Seen
+  rule : (number aside : ℕ) → List ℕ → Seen
   damage : ℕ → Seen
 
 abbrev seen : Walked → Seen
 seen NoneFits = nothing-fits
-seen (RuleFits f n) = rule (f .number) (bodyList (f .bodies) 0 n)
+seen (RuleFits f n) = rule (f .number) (f .aside) (bodyList (f .bodies) 0 n)
 seen (DamagedAt at) = damage at
 
-abbrev walked : (LeafNode → Bool) → List ℕ → List ℕ → Seen
+abbrev walked : (ℕ → LeafNode → Bool) → List ℕ → List ℕ → Seen
 walked fits table ws = seen (walk fits table (treeOf ws))
 
 term7 : List ℕ
@@ -48,7 +48,7 @@ damages :
     -- "a place isn't uncovered"
     × (walked noBook (3 ∷ 1 ∷ 0 ∷ 5 ∷ 5 ∷ 0 ∷ []) term7 ≡ damage 0)
     -- "n > 16"
-    × (walked noBook (1 ∷ 0 ∷ 17 ∷ []) term7 ≡ damage 0)
+    × (walked noBook (1 ∷ 0 ∷ 17 ∷ 0 ∷ []) term7 ≡ damage 0)
     -- "k > 4"
     × (walked noBook (3 ∷ 0 ∷ 5 ∷ 1 ∷ 2 ∷ 3 ∷ 4 ∷ 5 ∷ 10 ∷ 10 ∷ 0 ∷ []) term7 ≡ damage 0)
     -- "a list isn't distinct ids within 1..d"
@@ -61,19 +61,25 @@ damages :
     -- "a case is taken at a place already entered"
     × (walked noBook (2 ∷ 0 ∷ 1 ∷ s 3 1 ∷ 6 ∷ 12 ∷ 2 ∷ 0 ∷ 1 ∷ s 3 1 ∷ 12 ∷ 12 ∷ 0 ∷ []) term7 ≡ damage 6)
     -- "a Leaf's rule is 64 or more"
-    × (walked noBook (1 ∷ 64 ∷ 0 ∷ []) term7 ≡ damage 0)
-    × (walked noBook (1 ∷ 63 ∷ 0 ∷ []) term7 ≡ rule 63 [])
+    × (walked noBook (1 ∷ 64 ∷ 0 ∷ 0 ∷ []) term7 ≡ damage 0)
+    × (walked noBook (1 ∷ 63 ∷ 0 ∷ 0 ∷ []) term7 ≡ rule 63 0 [])
     -- "or one of its parts has no body"
-    × (walked noBook (2 ∷ 0 ∷ 1 ∷ l ∷ 6 ∷ 6 ∷ 1 ∷ 0 ∷ 1 ∷ 1 ∷ 0 ∷ []) term-l ≡ damage 6)
-    × (walked noBook (2 ∷ 0 ∷ 1 ∷ l ∷ 6 ∷ 6 ∷ 1 ∷ 0 ∷ 1 ∷ 1 ∷ 1 ∷ 1 ∷ []) term-l ≡ rule 0 (v 1 ∷ []))
-unfolding word kind count ident headOf headWith words read firsts others position listed goodList inside idBody renumberHead renumber namedHead named closed toBody sameWords idsOf counted ruleOf nthRule ruleAt leftOf childrenOf isHead bodyHere treeOf leftIn bodyList countsOf partOf markedPart childParts insideOf enterPart bodyFor leafBody goTo variablesIn soundVariable soundVariables leafNode isWord caseOf switchNode closedNode sameNode nodeAt nextAt walkBy walkFrom walk countsFit bookFits noBook s l v m term7 term-l
-damages = (refl, refl, refl, refl, refl, refl, refl, refl, refl, refl, refl, refl, refl, refl, refl)
+    × (walked noBook (2 ∷ 0 ∷ 1 ∷ l ∷ 6 ∷ 6 ∷ 1 ∷ 0 ∷ 1 ∷ 0 ∷ 1 ∷ 0 ∷ []) term-l ≡ damage 6)
+    × (walked noBook (2 ∷ 0 ∷ 1 ∷ l ∷ 6 ∷ 6 ∷ 1 ∷ 0 ∷ 1 ∷ 0 ∷ 1 ∷ 1 ∷ 1 ∷ []) term-l ≡ rule 0 0 (v 1 ∷ []))
+    -- "more than the root's count" is set aside
+    × (walked noBook (1 ∷ 0 ∷ 0 ∷ 1 ∷ []) term7 ≡ rule 0 1 [])
+    × (walked noBook (1 ∷ 0 ∷ 0 ∷ 2 ∷ []) term7 ≡ damage 0)
+unfolding word kind count ident headOf headWith words read firsts others position listed goodList inside idBody renumberHead renumber namedHead named closed toBody sameWords idsOf counted ruleOf nthRule ruleAt leftOf childrenOf isHead bodyHere treeOf leftIn bodyList countsOf partOf markedPart childParts insideOf enterPart bodyFor leafBody rootCount goTo variablesIn soundVariable soundVariables leafNode isWord caseOf switchNode closedNode sameNode nodeAt nextAt walkBy walkFrom walk countsFit bookFits noBook s l v m term7 term-l
+damages = (refl, refl, refl, refl, refl, refl, refl, refl, refl, refl, refl, refl, refl, refl, refl, refl, refl)
 
--- "Where a book is given too, a Leaf whose rule, n or counts don't fit it is damaged."
+-- "Where a book is given too, a Leaf whose rule, n or counts don't fit it is damaged", and "with a book any other number than a−b"
 damages-A :
-    (walked (bookFits bookA) (1 ∷ 3 ∷ 0 ∷ []) term7 ≡ damage 0)
-    × (walked (bookFits bookA) (1 ∷ 0 ∷ 0 ∷ []) term7 ≡ damage 0)
-    × (walked (bookFits bookA) (1 ∷ 2 ∷ 1 ∷ 0 ∷ 0 ∷ []) term7 ≡ damage 0)
-    × (walked (bookFits bookA) (1 ∷ 0 ∷ 1 ∷ 0 ∷ 0 ∷ []) term7 ≡ rule 0 (s 3 1 ∷ s 7 0 ∷ []))
-unfolding word kind count ident headOf headWith words read firsts others position listed goodList inside idBody renumberHead renumber namedHead named closed toBody sameWords idsOf counted ruleOf nthRule ruleAt leftOf childrenOf isHead bodyHere treeOf leftIn bodyList countsOf partOf markedPart childParts insideOf enterPart bodyFor leafBody goTo variablesIn soundVariable soundVariables leafNode isWord caseOf switchNode closedNode sameNode nodeAt nextAt walkBy walkFrom walk countsFit bookFits noBook s l v m bookA term7
-damages-A = (refl, refl, refl, refl)
+    (walked (bookFits bookA) (1 ∷ 3 ∷ 0 ∷ 0 ∷ []) term7 ≡ damage 0)
+    × (walked (bookFits bookA) (1 ∷ 1 ∷ 0 ∷ 0 ∷ []) term7 ≡ damage 0)
+    × (walked (bookFits bookA) (1 ∷ 2 ∷ 1 ∷ 0 ∷ 0 ∷ 0 ∷ []) term7 ≡ damage 0)
+    × (walked (bookFits bookA) (1 ∷ 1 ∷ 1 ∷ 0 ∷ 0 ∷ 0 ∷ []) term7 ≡ rule 1 0 (s 3 1 ∷ s 7 0 ∷ []))
+    × (walked (bookFits bookA) (1 ∷ 1 ∷ 1 ∷ 1 ∷ 0 ∷ 0 ∷ []) term7 ≡ damage 0)
+    × (walked (bookFits bookA) (1 ∷ 1 ∷ 1 ∷ 1 ∷ 0 ∷ 0 ∷ []) (s 3 2 ∷ s 7 0 ∷ s 7 0 ∷ []) ≡ rule 1 1 (s 3 2 ∷ s 7 0 ∷ s 7 0 ∷ []))
+    × (walked (bookFits bookA) (1 ∷ 0 ∷ 1 ∷ 0 ∷ 0 ∷ 0 ∷ []) term7 ≡ damage 0)
+unfolding word kind count ident headOf headWith words read firsts others position listed goodList inside idBody renumberHead renumber namedHead named closed toBody sameWords idsOf counted ruleOf nthRule ruleAt leftOf childrenOf isHead bodyHere treeOf leftIn bodyList countsOf partOf markedPart childParts insideOf enterPart bodyFor leafBody rootCount goTo variablesIn soundVariable soundVariables leafNode isWord caseOf switchNode closedNode sameNode nodeAt nextAt walkBy walkFrom walk countsFit bookFits noBook s l v m bookA term7
+damages-A = (refl, refl, refl, refl, refl, refl, refl)

@@ -1,8 +1,8 @@
 -- What Switch, Closed and Same say of a state: one law for each way through the code.
 use mathlib.Core.Path.{_≡_, refl, ap, _∙_}
-use mathlib.Core.Bool.{Bool, true, false}
+use mathlib.Core.Bool.{Bool, true, false, _&&_}
 use mathlib.Core.List.{List, [], _∷_}
-use mathlib.Core.Option.{Option, none, some}
+use mathlib.Core.Option.{Option, some}
 use Prim.Native.Nat.{ℕ, suc, _+_, _*_, _-_, _≤_, _<_}
 use native.Mathlib.Omega.{arith}
 use lib.Dec.{leb, ltb}
@@ -10,7 +10,6 @@ use lib.ListN.{length, getD, take, drop, length-drop}
 use lib.Seq.{drop-cons, getD-drop}
 use borrow.Author.Tests.{lt-ltb, le-ltb}
 use Rattle.term.specs.Word.{pick}
-use Rattle.term.specs.Row.{node}
 use Rattle.term.specs.Renumber.{goodList}
 use Rattle.term.specs.Part.{isSome, hasBody, sameO, sameBody}
 use Rattle.tree.specs.Find.{PartAt, partOf, bodyFor}
@@ -33,7 +32,7 @@ two-words table at h =
     let y : suc (at + 2) ≡ at + 3 = omega arith in
     drop-cons table (at + 1) 0 (omega arith) ∙ ap (getD table (at + 1) 0 ∷_) (rw z (drop-cons table (at + 2) 0 (omega arith) ∙ rw y))
 
-three-words : (table : List ℕ) (at : ℕ) → at + 4 ≤ length table → drop (at + 1) table ≡ getD table (at + 1) 0 ∷ getD table (at + 2) 0 ∷ getD table (at + 3) 0 ∷ drop (at + 4) table
+pub three-words : (table : List ℕ) (at : ℕ) → at + 4 ≤ length table → drop (at + 1) table ≡ getD table (at + 1) 0 ∷ getD table (at + 2) 0 ∷ getD table (at + 3) 0 ∷ drop (at + 4) table
 three-words table at h =
     let y : suc (at + 3) ≡ at + 4 = omega arith in
     two-words table at (omega arith) ∙ ap (λ (l : List ℕ). getD table (at + 1) 0 ∷ getD table (at + 2) 0 ∷ l) (drop-cons table (at + 3) 0 (omega arith) ∙ rw y)
@@ -235,14 +234,10 @@ module _ (table term : List ℕ) (s : Walk) (p : Parted term) (h : Holds term s)
     case-entered o = damaged _ (rw (place-entered term s p h n i, o))
 
     module _ (o : getD (s .entered) n false ≡ false) where
-      pub case-back : to ≤ s .at → CaseDecided (Stop 3)
+      pub case-out : (ltb (s .at) to && ltb to (length table)) ≡ false → CaseDecided (Stop 3)
       unfolding goTo
-      case-back l = damaged _ (rw (place-entered term s p h n i, o, le-ltb (s .at) to l))
+      case-out l = damaged _ (rw (place-entered term s p h n i, o, l))
 
-      pub case-out : s .at < to → length table ≤ to → CaseDecided (Stop 3)
-      unfolding goTo
-      case-out l u = damaged _ (rw (place-entered term s p h n i, o, lt-ltb (s .at) to l, le-ltb to (length table) u))
-
-      pub case-in : s .at < to → to < length table → CaseDecided (Enter n to)
+      pub case-in : (ltb (s .at) to && ltb to (length table)) ≡ true → CaseDecided (Enter n to)
       unfolding goTo Decided
-      case-in l u = (i, o, λ fits. rw (place-entered term s p h n i, o, lt-ltb (s .at) to l, lt-ltb to (length table) u))
+      case-in l = (i, o, λ fits. rw (place-entered term s p h n i, o, l))

@@ -1,9 +1,11 @@
--- Over a layout the walk is the walk of the tree and never damaged; over the layout of an accepted book's tree it finds the lowest rule that fits.
+-- Over a layout the walk is the walk of the tree and never damaged; over the layout of an accepted book's tree it finds the lowest rule that fits the
+-- term without the arguments set aside.
 use mathlib.Core.Path.{_≡_, refl, ap, _∙_}
 use mathlib.Core.Bool.{Bool, true, false}
 use mathlib.Core.List.{List, [], _∷_}
 use mathlib.Core.Option.{Option, none, some}
-use Prim.Native.Nat.{ℕ, suc, _≤_, _<_}
+use Prim.Native.Nat.{ℕ, suc, _+_, _≤_, _<_}
+use native.Mathlib.Omega.{arith}
 use lib.Dec.{eqb}
 use lib.ListN.{length, getD}
 use borrow.Author.Tests.{le-leb, eq-eqb}
@@ -14,15 +16,15 @@ use Rattle.term.specs.Part.{isSome, sameO}
 use Rattle.term.proofs.Laws.{and-both}
 use Rattle.book.specs.Rule.{counted}
 use Rattle.book.specs.Book.{checkBook}
-use Rattle.fit.specs.Lowest.{Fitting, lowest}
+use Rattle.fit.specs.Lowest.{Fitting, lowestFront}
 use Rattle.tree.specs.Tree.{LeafNode, countsOf, Tree}
-use Rattle.tree.specs.Compile.{bookTree}
-use Rattle.tree.specs.Find.{PartAt, rootPart, partOf, enterPart, bodyFor, leafFitting}
-use Rattle.tree.specs.Layout.{layout}
+use Rattle.tree.specs.Root.{bookTree}
+use Rattle.tree.specs.Find.{PartAt, rootCount, rootPart, partOf, enterPart, bodyFor, leafFitting}
 use Rattle.tree.proofs.Laws.{Lies, lies-inside, switch-lies, closed-lies, same-lies, Walks, fails, ends, takes, defaults, closedYes, closedNo, sameYes, sameNo, CountsAre, varsIn, FitsBook, book-walks}
-use Rattle.walk.specs.Walk.{Walked, NoneFits, RuleFits, Next, Ends, Goes, goTo, nextAt, follow, walkFrom, walk, countsFit, bookFits, noBook}
+use Rattle.walk.specs.Walk.{Walked, NoneFits, RuleFits, Next, Ends, Goes, goTo, nextAt, follow, walkFrom, walk, countsFit, leftCount, bookFits, noBook}
 use Rattle.walk.proofs.Nodes.{goes, next-fail, next-leaf, case-taken, next-case, next-default, next-closed, next-same}
 use Rattle.walk.proofs.Steps.{walk-is}
+use Rattle.walk.proofs.RootCounts.{left-counts}
 
 -- how a walk ends that finds this: `vars` says how many variables a rule has
 abbrev pub walkedOf : (ℕ → ℕ) → Option Fitting → Walked
@@ -75,31 +77,34 @@ module _ (vars : ℕ → ℕ) (fits : LeafNode → Bool) (table : List ℕ) wher
       (walk-laid b qs s w (k .no-at) (k .no-lies))
 
 -- ---- what is asked of a Leaf
-none-given : (book : List ℕ) → FitsBook book noBook
+none-given : (book : List ℕ) (a : ℕ) → FitsBook book a (noBook a)
 unfolding noBook
-none-given book leaf rule e n c = refl
+none-given book a leaf rule e n c s = le-leb (leaf .aside) a (omega (arith, s))
 
 counts-fit : (left : List ℕ) (x : ℕ) (ks : List ℕ) → CountsAre left x ks → countsFit left x ks ≡ true
 unfolding countsFit
 counts-fit left x [] c = refl
 counts-fit left x (k ∷ ks) c = and-both (eqb (counted x left) (suc k)) (countsFit left (suc x) ks) (eq-eqb (counted x left) (suc k) (c .0)) (counts-fit left (suc x) ks (c .1))
 
-book-given : (book : List ℕ) → FitsBook book (bookFits book)
+book-given : (book : List ℕ) → checkBook book ≡ Good → (a : ℕ) → FitsBook book a (bookFits book a)
 unfolding bookFits
-book-given book leaf rule e n c = rw (e, eq-eqb (length (leaf .variables)) (rule .vars) n) (counts-fit (rule .left) 0 (countsOf (leaf .variables)) c)
+book-given book accepted a leaf rule e n c s =
+    let l : leaf .aside + leftCount (rule .left) ≡ a = rw (left-counts book accepted (leaf .rule) rule e) s in
+    rw (e, eq-eqb (length (leaf .variables)) (rule .vars) n, eq-eqb (leaf .aside + leftCount (rule .left)) a l) (counts-fit (rule .left) 0 (countsOf (leaf .variables)) c)
 
 -- ---- a table that begins with an accepted book's tree, whatever follows it
 module _ (book : List ℕ) (accepted : checkBook book ≡ Good) (t : Row) (formed : Formed t) (one : width t ≡ 1) where
-  begun : (fits : LeafNode → Bool) → FitsBook book fits → (table : List ℕ) → length table ≤ 16384 → Lies table 0 (bookTree book) → walk fits table t ≡ walkedOf (varsIn book) (lowest book 0 (getD book 0 0) t)
+  begun : (fits : ℕ → LeafNode → Bool) → FitsBook book (rootCount t) (fits (rootCount t)) → (table : List ℕ) → length table ≤ 16384 → Lies table 0 (bookTree book)
+      → walk fits table t ≡ walkedOf (varsIn book) (lowestFront book 0 (getD book 0 0) t)
   unfolding walk
   begun fits ok table short l =
       rw (le-leb (length table) 16384 short)
-      (walk-laid (varsIn book) fits table (bookTree book) (rootPart t) (lowest book 0 (getD book 0 0) t) (book-walks book accepted fits ok t formed one) 0 l)
+      (walk-laid (varsIn book) (fits (rootCount t)) table (bookTree book) (rootPart t) (lowestFront book 0 (getD book 0 0) t) (book-walks book accepted t formed one (fits (rootCount t)) ok) 0 l)
 
   -- with no book given
-  pub begun-alone : (table : List ℕ) → length table ≤ 16384 → Lies table 0 (bookTree book) → walk noBook table t ≡ walkedOf (varsIn book) (lowest book 0 (getD book 0 0) t)
-  begun-alone = begun noBook (none-given book)
+  pub begun-alone : (table : List ℕ) → length table ≤ 16384 → Lies table 0 (bookTree book) → walk noBook table t ≡ walkedOf (varsIn book) (lowestFront book 0 (getD book 0 0) t)
+  begun-alone = begun noBook (none-given book (rootCount t))
 
   -- with the book given too
-  pub begun-with : (table : List ℕ) → length table ≤ 16384 → Lies table 0 (bookTree book) → walk (bookFits book) table t ≡ walkedOf (varsIn book) (lowest book 0 (getD book 0 0) t)
-  begun-with = begun (bookFits book) (book-given book)
+  pub begun-with : (table : List ℕ) → length table ≤ 16384 → Lies table 0 (bookTree book) → walk (bookFits book) table t ≡ walkedOf (varsIn book) (lowestFront book 0 (getD book 0 0) t)
+  begun-with = begun (bookFits book) (book-given book accepted (rootCount t))

@@ -4,16 +4,19 @@
 pub use Rattle.walk.proofs.Steps.{Later, later-next, walk-is}
 -- No more places are uncovered than the term has words.
 pub use Rattle.walk.proofs.Places.{Keeps, keeps-next}
--- Over a layout the walk is the walk of the tree and never damaged; over the layout of an accepted book's tree it finds the lowest rule that fits.
+-- Over a layout the walk is the walk of the tree and never damaged; over the layout of an accepted book's tree it finds the lowest rule that fits the term
+-- without the arguments set aside.
 pub use Rattle.walk.proofs.Laid.{walkedOf, walk-laid, begun-alone, begun-with}
--- Demand 3, of what compiling leaves and matching hands back, said without trees: the lowest rule that fits, with the only bodies.
+-- Demand 3, of what compiling leaves and matching hands back, said without trees: the lowest rule that fits the term without the arguments set
+-- aside, with their number and the only bodies.
 pub use Rattle.walk.proofs.Demand3.{tree-finds, only-fit}
 -- What matching by the tree hands back, as one outcome and part by part.
-pub use Rattle.walk.proofs.Outcomes.{tree-came, tree-answer, tree-rule, tree-bodies, tree-lengths}
+pub use Rattle.walk.proofs.Outcomes.{tree-came, tree-answer, tree-rule, tree-aside, tree-bodies, tree-lengths}
 -- Each offset of a term begins a part, also in the words from an offset on: what the walk asks of its words.
 pub use Rattle.walk.proofs.Answers.{tail-parted}
--- On every walk a rule that is found has bodies; with a book it is one of the book's rules, with as many variables.
+-- On every walk a rule that is found has bodies; with a book it is one of the book's rules, with as many variables, and what the root has more is set aside.
 pub use Rattle.walk.proofs.Sound.{FoundSound, walk-sound, fits-rule}
+pub use Rattle.walk.proofs.RootCounts.{part-counts, left-counts, aside-is}
 -- Where the root has no case for the term's word, and its default is a Fail, no rule fits.
 pub use Rattle.walk.proofs.Skips.{no-case}
 -- The part that such words begin with is one term, and 16 bodies have room in 65,536 words: what a walk with a book rests on.

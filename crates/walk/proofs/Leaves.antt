@@ -27,37 +27,42 @@ use Rattle.walk.specs.declared.decide.Decision.the-variants.{Stop}
 use Rattle.walk.specs.told.State.{placesOf, Parted, Holds, soundLeaf, variablesOr, leafIn, LeafSound, LeafDecided, PartWritten, LeafWritten}
 use Rattle.walk.proofs.Tells.{decided-damaged, decided-rule}
 use Rattle.walk.proofs.Uncovered.{place-body}
-use Rattle.walk.proofs.Judged.{two-words}
+use Rattle.walk.proofs.Judged.{three-words}
 use Rattle.walk.proofs.Variables.{FirstRead, first-read}
 
 -- ---- the node
 module _ (fits : LeafNode → Bool) (at : ℕ) (ps : List PartAt) where
-  leaf-short : (ws : List ℕ) → length ws < 2 → leafNode fits at ps ws ≡ Ends (DamagedAt at)
+  leaf-short : (ws : List ℕ) → length ws < 3 → leafNode fits at ps ws ≡ Ends (DamagedAt at)
   unfolding leafNode
   leaf-short [] h = refl
   leaf-short (n ∷ []) h = refl
-  leaf-short (n ∷ k ∷ ws) h = absurd (omega arith)
+  leaf-short (n ∷ k ∷ []) h = refl
+  leaf-short (n ∷ k ∷ m ∷ ws) h = absurd (omega arith)
 
-  leaf-high : (rule n : ℕ) (ws : List ℕ) → 64 ≤ rule → leafNode fits at ps (rule ∷ n ∷ ws) ≡ Ends (DamagedAt at)
-  unfolding leafNode
-  leaf-high rule n ws h = rw (le-ltb rule 64 h)
+  module _ (rule n aside : ℕ) (ws : List ℕ) where
+    leaf-high : 64 ≤ rule → leafNode fits at ps (rule ∷ n ∷ aside ∷ ws) ≡ Ends (DamagedAt at)
+    unfolding leafNode
+    leaf-high h = rw (le-ltb rule 64 h)
 
-  leaf-many : (rule n : ℕ) (ws : List ℕ) → rule < 64 → 16 < n → leafNode fits at ps (rule ∷ n ∷ ws) ≡ Ends (DamagedAt at)
-  unfolding leafNode
-  leaf-many rule n ws l h = rw (lt-ltb rule 64 l, lt-leb n 16 h)
+    leaf-many : rule < 64 → 16 < n → leafNode fits at ps (rule ∷ n ∷ aside ∷ ws) ≡ Ends (DamagedAt at)
+    unfolding leafNode
+    leaf-many l h = rw (lt-ltb rule 64 l, lt-leb n 16 h)
 
-  leaf-is : (rule n : ℕ) (ws : List ℕ) → rule < 64 → n ≤ 16 → leafNode fits at ps (rule ∷ n ∷ ws) ≡ leafWith fits at ps n (leafRead rule (variablesIn n ws))
-  unfolding leafNode
-  leaf-is rule n ws l h = rw (lt-ltb rule 64 l, le-leb n 16 h)
+    leaf-is : rule < 64 → n ≤ 16 → leafNode fits at ps (rule ∷ n ∷ aside ∷ ws) ≡ leafWith fits at ps n (leafRead rule aside (variablesIn n ws))
+    unfolding leafNode
+    leaf-is l h = rw (lt-ltb rule 64 l, le-leb n 16 h)
 
-  with-unsound : (rule n : ℕ) (o : Option (List LeafVariable)) → soundLeaf ps o ≡ false → leafWith fits at ps n (leafRead rule o) ≡ Ends (DamagedAt at)
-  with-unsound rule n none e = refl
-  with-unsound rule n (some vs) e = rw e
+  module _ (rule n aside : ℕ) where
+    with-unsound : (o : Option (List LeafVariable)) → soundLeaf ps o ≡ false → leafWith fits at ps n (leafRead rule aside o) ≡ Ends (DamagedAt at)
+    with-unsound none e = refl
+    with-unsound (some vs) e = rw e
 
-  with-sound : (rule n : ℕ) (o : Option (List LeafVariable)) → soundLeaf ps o ≡ true
-      → leafWith fits at ps n (leafRead rule o) ≡ unless (fits (record { rule = rule; variables = variablesOr o })) at (Ends (RuleFits (leafFitting ps (record { rule = rule; variables = variablesOr o })) n))
-  with-sound rule n none e = never (cc)
-  with-sound rule n (some vs) e = rw e
+    abbrev leafOf : Option (List LeafVariable) → LeafNode
+    leafOf o = record { rule = rule; aside = aside; variables = variablesOr o }
+
+    with-sound : (o : Option (List LeafVariable)) → soundLeaf ps o ≡ true → leafWith fits at ps n (leafRead rule aside o) ≡ unless (fits (leafOf o)) at (Ends (RuleFits (leafFitting ps (leafOf o)) n))
+    with-sound none e = never (cc)
+    with-sound (some vs) e = rw e
 
 module _ (table term : List ℕ) (s : Walk) where
   abbrev nexts : (LeafNode → Bool) → Next
@@ -66,35 +71,42 @@ module _ (table term : List ℕ) (s : Walk) where
   leaf-ends : ((fits : LeafNode → Bool) → nexts fits ≡ Ends (DamagedAt (s .at))) → LeafDecided table term s (Stop 3)
   leaf-ends e = decided-damaged table term nexts s e
 
-  pub leaf-node-cut : s .at < length table → length table - s .at < 3 → LeafDecided table term s (Stop 3)
+  pub leaf-node-cut : s .at < length table → length table - s .at < 4 → LeafDecided table term s (Stop 3)
   leaf-node-cut i l = leaf-ends (λ fits. leaf-short fits (s .at) (placesOf term s) (drop (s .at + 1) table) (rw (length-drop (s .at + 1) table) (omega arith)))
 
-  module _ (long : s .at + 3 ≤ length table) where
+  module _ (long : s .at + 4 ≤ length table) where
+    abbrev rule : ℕ
+    rule = getD table (s .at + 1) 0
+
+    abbrev number : ℕ
+    number = getD table (s .at + 2) 0
+
+    abbrev aside : ℕ
+    aside = getD table (s .at + 3) 0
+
+    abbrev after : List ℕ
+    after = drop (s .at + 4) table
+
     pub leaf-rule-high : 64 ≤ getD table (s .at + 1) 0 → LeafDecided table term s (Stop 3)
-    leaf-rule-high l =
-        leaf-ends (λ fits. rw (two-words table (s .at) long) (leaf-high fits (s .at) (placesOf term s) (getD table (s .at + 1) 0) (getD table (s .at + 2) 0) (drop (s .at + 3) table) l))
+    leaf-rule-high l = leaf-ends (λ fits. rw (three-words table (s .at) long) (leaf-high fits (s .at) (placesOf term s) rule number aside after l))
 
     module _ (low : getD table (s .at + 1) 0 < 64) where
       pub leaf-vars-many : 16 < getD table (s .at + 2) 0 → LeafDecided table term s (Stop 3)
-      leaf-vars-many l =
-          leaf-ends (λ fits. rw (two-words table (s .at) long) (leaf-many fits (s .at) (placesOf term s) (getD table (s .at + 1) 0) (getD table (s .at + 2) 0) (drop (s .at + 3) table) low l))
+      leaf-vars-many l = leaf-ends (λ fits. rw (three-words table (s .at) long) (leaf-many fits (s .at) (placesOf term s) rule number aside after low l))
 
       module _ (few : getD table (s .at + 2) 0 ≤ 16) where
-        leaf-next-is : (fits : LeafNode → Bool) → nexts fits ≡ leafWith fits (s .at) (placesOf term s) (getD table (s .at + 2) 0) (leafRead (getD table (s .at + 1) 0) (variablesIn (getD table (s .at + 2) 0) (drop (s .at + 3) table)))
-        leaf-next-is fits =
-            rw (two-words table (s .at) long) (leaf-is fits (s .at) (placesOf term s) (getD table (s .at + 1) 0) (getD table (s .at + 2) 0) (drop (s .at + 3) table) low few)
+        leaf-next-is : (fits : LeafNode → Bool) → nexts fits ≡ leafWith fits (s .at) (placesOf term s) number (leafRead rule aside (variablesIn number after))
+        leaf-next-is fits = rw (three-words table (s .at) long) (leaf-is fits (s .at) (placesOf term s) rule number aside after low few)
 
-        pub leaf-unsound : false ≡ soundLeaf (placesOf term s) (variablesIn (getD table (s .at + 2) 0) (drop (s .at + 3) table)) → LeafDecided table term s (Stop 3)
-        leaf-unsound u =
-            leaf-ends
-            (λ fits. leaf-next-is fits ∙ with-unsound fits (s .at) (placesOf term s) (getD table (s .at + 1) 0) (getD table (s .at + 2) 0) (variablesIn (getD table (s .at + 2) 0) (drop (s .at + 3) table)) (sym u))
+        pub leaf-unsound : false ≡ soundLeaf (placesOf term s) (variablesIn (getD table (s .at + 2) 0) (drop (s .at + 4) table)) → LeafDecided table term s (Stop 3)
+        leaf-unsound u = leaf-ends (λ fits. leaf-next-is fits ∙ with-unsound fits (s .at) (placesOf term s) rule number aside (variablesIn number after) (sym u))
 
-        pub leaf-found : true ≡ soundLeaf (placesOf term s) (variablesIn (getD table (s .at + 2) 0) (drop (s .at + 3) table)) → LeafDecided table term s (Stop 2)
+        pub leaf-found : true ≡ soundLeaf (placesOf term s) (variablesIn (getD table (s .at + 2) 0) (drop (s .at + 4) table)) → LeafDecided table term s (Stop 2)
         leaf-found u =
             decided-rule table term nexts s
             (record {
               leaf = record { inside = long; few = few; sound = sym u };
-              ends = λ fits. leaf-next-is fits ∙ with-sound fits (s .at) (placesOf term s) (getD table (s .at + 1) 0) (getD table (s .at + 2) 0) (variablesIn (getD table (s .at + 2) 0) (drop (s .at + 3) table)) (sym u);
+              ends = λ fits. leaf-next-is fits ∙ with-sound fits (s .at) (placesOf term s) rule number aside (variablesIn number after) (sym u);
             })
 
 -- ---- one body
@@ -208,10 +220,10 @@ module _ (table term : List ℕ) (s : Walk) (p : Parted term) (h : Holds term s)
   abbrev body : ℕ → Row
   body = leafBody (placesOf term s) (leafIn table (s .at) .variables)
 
-  pub writing-start : (bodies lengths : List ℕ) → length bodies ≡ room → bodies ≡ replicate room 0 → lengths ≡ replicate 16 0 → Writing table term s room bodies lengths (s .at + 3) 0 0
-  writing-start bodies lengths n c e = go (variablesIn vars (drop (s .at + 3) table)) refl (l .sound)
+  pub writing-start : (bodies lengths : List ℕ) → length bodies ≡ room → bodies ≡ replicate room 0 → lengths ≡ replicate 16 0 → Writing table term s room bodies lengths (s .at + 4) 0 0
+  writing-start bodies lengths n c e = go (variablesIn vars (drop (s .at + 4) table)) refl (l .sound)
     where
-      go : (o : Option (List LeafVariable)) → variablesIn vars (drop (s .at + 3) table) ≡ o → soundLeaf (placesOf term s) o ≡ true → Writing table term s room bodies lengths (s .at + 3) 0 0
+      go : (o : Option (List LeafVariable)) → variablesIn vars (drop (s .at + 4) table) ≡ o → soundLeaf (placesOf term s) o ≡ true → Writing table term s room bodies lengths (s .at + 4) 0 0
       go none q u = never (cc)
       go (some vs) q u =
           let z : vars - 0 ≡ vars = omega arith in
@@ -226,7 +238,7 @@ module _ (table term : List ℕ) (s : Walk) (p : Parted term) (h : Holds term s)
   module _ (bodies lengths : List ℕ) (at to x : ℕ) (w : Writing table term s room bodies lengths at to x) where
     pub writing-done : vars ≤ x → LeafWritten table term s room bodies lengths true
     unfolding LeafWritten
-    writing-done i = let q = many-done vars body room (l .few) bodies lengths to x (w .many) i in (q .0, q .1 .0, q .1 .1, q .1 .2)
+    writing-done i = let q = many-done vars body room (l .few) bodies lengths to x (w .many) i (leafIn table (s .at) .aside) in (q .0, q .1 .0, q .1 .1, q .1 .2)
 
     module _ (i : x < vars) where
       abbrev first : FirstRead table term s at (vars - x) (w .rest)
@@ -272,7 +284,7 @@ module _ (table term : List ℕ) (s : Walk) (p : Parted term) (h : Holds term s)
           let b = has-one first in
           let e = body-is first (b .0) (b .1) in
           let k = u (b .0) (b .1) in
-          let q = many-short vars body room (l .few) bodies lengths to x (w .many) i (omega (arith, o, k, ap (λ (r : Row). length (words r)) e)) cleared zeros c z in
+          let q = many-short vars body room (l .few) bodies lengths to x (w .many) i (omega (arith, o, k, ap (λ (r : Row). length (words r)) e)) cleared zeros c z (leafIn table (s .at) .aside) in
           (q .0, q .1 .0, q .1 .1, q .1 .2)
 
       module _ (out done post : List ℕ) (n : ℕ) (o : length out ≡ room - to) (long : length done ≡ length out) (nothing-after : post ≡ []) (u : PartWritten depth list part out done (step.Done n)) where

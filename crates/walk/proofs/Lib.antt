@@ -3,6 +3,7 @@ mod Addresses
 mod Tells
 mod Uncovered
 mod Entering
+mod RootCounts
 mod Judged
 mod Variables
 mod Leaves

@@ -63,7 +63,7 @@ pub next-leaf : (fits : LeafNode → Bool) (table : List ℕ) (at : ℕ) (ps : L
 unfolding nextAt nodeAt leafNode
 next-leaf fits table at ps leaf l low few f s =
     let e = leaf-lies table at leaf l in
-    let g : fits (record { rule = leaf .rule; variables = leaf .variables }) ≡ true = f in
+    let g : fits (record { rule = leaf .rule; aside = leaf .aside; variables = leaf .variables }) ≡ true = f in
     rw (e .1, lt-ltb (leaf .rule) 64 low, le-leb (length (leaf .variables)) 16 few, variables-read (leaf .variables) (e .0), variables-sound ps (leaf .variables) s, g)
 
 -- ---- Switch

@@ -5,21 +5,22 @@ use Prim.Native.Nat.{ℕ}
 use Rattle.term.specs.Answer.{answered}
 use Rattle.term.specs.declared.answer.Answer.{Answer}
 use Rattle.term.proofs.Laws.{answered-same}
-use Rattle.fit.specs.Match.{Matched, matchAnswer, matchWords, matchLengths}
+use Rattle.fit.specs.Match.{Matched, matchAnswer, matchAside, matchWords, matchLengths}
 use Rattle.walk.specs.ByTree.{matchTree, matchTreeRule, MatchTreeOutcome, matchTreeCame, ruleGives, matchTreeGives}
 
-module _ (a : Answer) (rule : ℕ) (bodies lengths : List ℕ) where
-  pub rule-came : (room : ℕ) (m : Matched) (number : ℕ) → a ≡ matchAnswer room m → rule ≡ number → bodies ≡ matchWords room m → lengths ≡ matchLengths room m
-      → matchTreeCame (answered a) rule bodies lengths ≡ ruleGives room m number
-  rule-came room m number p q s t = rw (p, q, s, t)
+module _ (a : Answer) (rule aside : ℕ) (bodies lengths : List ℕ) where
+  pub rule-came : (room : ℕ) (m : Matched) (number : ℕ) → a ≡ matchAnswer room m → rule ≡ number → aside ≡ matchAside room m → bodies ≡ matchWords room m → lengths ≡ matchLengths room m
+      → matchTreeCame (answered a) rule aside bodies lengths ≡ ruleGives room m number
+  rule-came room m number p q n s t = rw (p, q, n, s, t)
 
   module _ (tree term : List ℕ) (room : ℕ) where
-    pub tree-came : a ≡ matchAnswer room (matchTree tree term) → rule ≡ matchTreeRule room tree term → bodies ≡ matchWords room (matchTree tree term) → lengths ≡ matchLengths room (matchTree tree term)
-        → matchTreeCame (answered a) rule bodies lengths ≡ matchTreeGives tree term room
+    pub tree-came : a ≡ matchAnswer room (matchTree tree term) → rule ≡ matchTreeRule room tree term → aside ≡ matchAside room (matchTree tree term)
+        → bodies ≡ matchWords room (matchTree tree term) → lengths ≡ matchLengths room (matchTree tree term)
+        → matchTreeCame (answered a) rule aside bodies lengths ≡ matchTreeGives tree term room
     unfolding matchTreeGives
     tree-came = rule-came room (matchTree tree term) (matchTreeRule room tree term)
 
-    module _ (e : matchTreeCame (answered a) rule bodies lengths ≡ matchTreeGives tree term room) where
+    module _ (e : matchTreeCame (answered a) rule aside bodies lengths ≡ matchTreeGives tree term room) where
       pub tree-answer : a ≡ matchAnswer room (matchTree tree term)
       unfolding matchTreeGives
       tree-answer = answered-same a (matchAnswer room (matchTree tree term)) (ap (λ (o : MatchTreeOutcome). o .said) e)
@@ -27,6 +28,10 @@ module _ (a : Answer) (rule : ℕ) (bodies lengths : List ℕ) where
       pub tree-rule : rule ≡ matchTreeRule room tree term
       unfolding matchTreeGives
       tree-rule = ap (λ (o : MatchTreeOutcome). o .rule) e
+
+      pub tree-aside : aside ≡ matchAside room (matchTree tree term)
+      unfolding matchTreeGives
+      tree-aside = ap (λ (o : MatchTreeOutcome). o .aside) e
 
       pub tree-bodies : bodies ≡ matchWords room (matchTree tree term)
       unfolding matchTreeGives

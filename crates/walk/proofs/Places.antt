@@ -1,10 +1,9 @@
 -- On every walk, over whole words or damaged ones, no more places are uncovered than the term has words: a place is entered once.
-use mathlib.Core.Path.{_≡_, refl, sym, ap, _∙_}
+use mathlib.Core.Path.{_≡_, refl}
 use mathlib.Core.Bool.{Bool, true, false, _&&_, not}
-use mathlib.Core.List.{List, [], _∷_, _++_}
+use mathlib.Core.List.{List, [], _∷_}
 use mathlib.Core.Option.{Option, none, some}
-use Prim.Native.Nat.{ℕ, zero, suc, _+_, _*_, _≤_, _<_}
-use native.Mathlib.Omega.{arith}
+use Prim.Native.Nat.{ℕ, _+_, _*_}
 use lib.Dec.{eqb, leb, ltb}
 use lib.ListN.{length, getD, take, drop}
 use Rattle.term.specs.Word.{pick}
@@ -42,9 +41,10 @@ keeps-leaf : (fits : LeafNode → Bool) (at : ℕ) (ps : List PartAt) (ws : List
 unfolding leafNode
 keeps-leaf fits at ps [] = tt
 keeps-leaf fits at ps (rule ∷ []) = tt
-keeps-leaf fits at ps (rule ∷ n ∷ ws) =
-    keeps-unless ps at (ltb rule 64) (unless (leb n 16) at (leafWith fits at ps n (leafRead rule (variablesIn n ws))))
-    (keeps-unless ps at (leb n 16) (leafWith fits at ps n (leafRead rule (variablesIn n ws))) (keeps-with fits at ps n (leafRead rule (variablesIn n ws))))
+keeps-leaf fits at ps (rule ∷ n ∷ []) = tt
+keeps-leaf fits at ps (rule ∷ n ∷ aside ∷ ws) =
+    keeps-unless ps at (ltb rule 64) (unless (leb n 16) at (leafWith fits at ps n (leafRead rule aside (variablesIn n ws))))
+    (keeps-unless ps at (leb n 16) (leafWith fits at ps n (leafRead rule aside (variablesIn n ws))) (keeps-with fits at ps n (leafRead rule aside (variablesIn n ws))))
 
 keeps-case : (table : List ℕ) (at n : ℕ) (ps : List PartAt) (default : ℕ) (o : Option ℕ) → Keeps ps (caseNext table at n ps default o)
 keeps-case table at n ps default none = keeps-to ps table at default ps refl

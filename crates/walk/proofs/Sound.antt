@@ -16,14 +16,14 @@ use Rattle.term.proofs.Laws.{never, and-left, and-right, good-true}
 use Rattle.book.specs.Book.{Rule, ruleAt}
 use Rattle.fit.specs.Fit.{IsBody}
 use Rattle.tree.specs.Tree.{LeafVariable, LeafNode, countsOf}
-use Rattle.tree.specs.Find.{PartAt, rootPart, partOf, enterPart, bodyFor, leafFitting}
+use Rattle.tree.specs.Find.{PartAt, rootCount, rootPart, partOf, enterPart, bodyFor, leafFitting}
 use Rattle.tree.proofs.Laws.{SoundVariable, AllSound, AllTerms, terms-root, terms-entered, leaf-terms}
-use Rattle.walk.specs.Walk.{Walked, NoneFits, RuleFits, DamagedAt, Next, Ends, Goes, unless, goTo, variableThen, variablesIn, soundVariable, soundVariables, leafRead, leafWith, leafNode, caseOf, caseNext, switchNode, closedNode, sameNode, nodeAt, nextAt, follow, walkBy, walkFrom, walk, countsFit, ruleFits, bookFits}
+use Rattle.walk.specs.Walk.{Walked, NoneFits, RuleFits, DamagedAt, Next, Ends, Goes, unless, goTo, variableThen, variablesIn, soundVariable, soundVariables, leafRead, leafWith, leafNode, caseOf, caseNext, switchNode, closedNode, sameNode, nodeAt, nextAt, follow, walkBy, walkFrom, walk, countsFit, leftCount, ruleFits, bookFits}
 
 -- a rule that is found has as many bodies as it has variables, and its Leaf fits
 abbrev pub FoundSound : (LeafNode → Bool) → Walked → Type 0
 FoundSound fits NoneFits = Unit {0}
-FoundSound fits (RuleFits f n) = (vs : List LeafVariable) × (length vs ≡ n) × (fits (record { rule = f .number; variables = vs }) ≡ true) × ((x : ℕ) → x < n → IsBody (f .bodies x))
+FoundSound fits (RuleFits f n) = (vs : List LeafVariable) × (length vs ≡ n) × (fits (record { rule = f .number; aside = f .aside; variables = vs }) ≡ true) × ((x : ℕ) → x < n → IsBody (f .bodies x))
 FoundSound fits (DamagedAt at) = Unit {0}
 
 abbrev SoundNext : (LeafNode → Bool) → Next → Type 0
@@ -81,12 +81,14 @@ module _ (fits : LeafNode → Bool) (ps : List PartAt) (terms : AllTerms ps) whe
   unfolding goTo
   sound-to table at to qs a = sound-unless at (ltb at to && ltb to (length table)) (Goes to qs) a
 
-  sound-with : (at rule n : ℕ) (o : Option (List LeafVariable)) → AsMany n o → SoundNext fits (leafWith fits at ps n (leafRead rule o))
-  sound-with at rule n none m = tt
-  sound-with at rule n (some vs) m = go (soundVariables ps vs) (fits (record { rule = rule; variables = vs })) refl refl
+  sound-with : (at rule aside n : ℕ) (o : Option (List LeafVariable)) → AsMany n o → SoundNext fits (leafWith fits at ps n (leafRead rule aside o))
+  sound-with at rule aside n none m = tt
+  sound-with at rule aside n (some vs) m = go (soundVariables ps vs) (fits leaf) refl refl
     where
-      go : (a b : Bool) → soundVariables ps vs ≡ a → fits (record { rule = rule; variables = vs }) ≡ b
-          → SoundNext fits (unless a at (unless b at (Ends (RuleFits (leafFitting ps (record { rule = rule; variables = vs })) n))))
+      leaf : LeafNode
+      leaf = record { rule = rule; aside = aside; variables = vs }
+
+      go : (a b : Bool) → soundVariables ps vs ≡ a → fits leaf ≡ b → SoundNext fits (unless a at (unless b at (Ends (RuleFits (leafFitting ps leaf) n))))
       go true true p q = (vs, m, q, λ x h. leaf-terms ps terms vs (sound-all ps vs p) x (omega (arith, m, h)))
       go true false p q = tt
       go false b p q = tt
@@ -95,9 +97,10 @@ module _ (fits : LeafNode → Bool) (ps : List PartAt) (terms : AllTerms ps) whe
   unfolding leafNode
   sound-leaf at [] = tt
   sound-leaf at (rule ∷ []) = tt
-  sound-leaf at (rule ∷ n ∷ ws) =
-      sound-unless at (ltb rule 64) (unless (leb n 16) at (leafWith fits at ps n (leafRead rule (variablesIn n ws))))
-      (sound-unless at (leb n 16) (leafWith fits at ps n (leafRead rule (variablesIn n ws))) (sound-with at rule n (variablesIn n ws) (as-many n ws)))
+  sound-leaf at (rule ∷ n ∷ []) = tt
+  sound-leaf at (rule ∷ n ∷ aside ∷ ws) =
+      sound-unless at (ltb rule 64) (unless (leb n 16) at (leafWith fits at ps n (leafRead rule aside (variablesIn n ws))))
+      (sound-unless at (leb n 16) (leafWith fits at ps n (leafRead rule aside (variablesIn n ws))) (sound-with at rule aside n (variablesIn n ws) (as-many n ws)))
 
   -- ---- the other nodes go on with the parts, or with one of them entered
   module _ (table : List ℕ) (at : ℕ) where
@@ -176,19 +179,29 @@ module _ (fits : LeafNode → Bool) (table : List ℕ) where
   sound-by zero at ps a = tt
   sound-by (suc n) at ps a = sound-follow (walkBy n fits table) (λ to qs b. sound-by n to qs b) (nextAt fits table at ps) (sound-next fits ps a table at)
 
-  pub walk-sound : (t : Row) → IsBody t → FoundSound fits (walk fits table t)
-  unfolding walk walkFrom
-  walk-sound t i = go (leb (length table) 16384)
-    where
-      go : (b : Bool) → FoundSound fits (pick b (walkBy (suc (length table - 0)) fits table 0 (rootPart t)) (DamagedAt 16384))
-      go true = sound-by (suc (length table - 0)) 0 (rootPart t) (terms-root t i)
-      go false = tt
-
--- ---- with a book the rule is one of the book's, with as many variables
-pub fits-rule : (book : List ℕ) (number : ℕ) (vs : List LeafVariable) → bookFits book (record { rule = number; variables = vs }) ≡ true → (rule : Rule) × (ruleAt book number ≡ some rule) × (length vs ≡ rule .vars)
-unfolding bookFits
-fits-rule book number vs e = go (ruleAt book number) refl e
+pub walk-sound : (fits : ℕ → LeafNode → Bool) (table : List ℕ) (t : Row) → IsBody t → FoundSound (fits (rootCount t)) (walk fits table t)
+unfolding walk walkFrom
+walk-sound fits table t i = go (leb (length table) 16384)
   where
-    go : (o : Option Rule) → ruleAt book number ≡ o → ruleFits o (record { rule = number; variables = vs }) ≡ true → (rule : Rule) × (ruleAt book number ≡ some rule) × (length vs ≡ rule .vars)
-    go none q f = never (cc)
-    go (some rule) q f = (rule, q, eqb-true (length vs) (rule .vars) (and-left (eqb (length vs) (rule .vars)) (countsFit (rule .left) 0 (countsOf vs)) f))
+    go : (b : Bool) → FoundSound (fits (rootCount t)) (pick b (walkBy (suc (length table - 0)) (fits (rootCount t)) table 0 (rootPart t)) (DamagedAt 16384))
+    go true = sound-by (fits (rootCount t)) table (suc (length table - 0)) 0 (rootPart t) (terms-root t i)
+    go false = tt
+
+-- ---- with a book the rule is one of the book's, with as many variables, and what the root has more than its left side is set aside
+module _ (book : List ℕ) (a : ℕ) (leaf : LeafNode) (e : bookFits book a leaf ≡ true) where
+  pub fits-rule : (rule : Rule) × (ruleAt book (leaf .rule) ≡ some rule) × (length (leaf .variables) ≡ rule .vars) × (leaf .aside + leftCount (rule .left) ≡ a)
+  unfolding bookFits
+  fits-rule = go (ruleAt book (leaf .rule)) refl e
+    where
+      go : (o : Option Rule) → ruleAt book (leaf .rule) ≡ o → ruleFits o a leaf ≡ true
+          → (rule : Rule) × (ruleAt book (leaf .rule) ≡ some rule) × (length (leaf .variables) ≡ rule .vars) × (leaf .aside + leftCount (rule .left) ≡ a)
+      go none q f = never (cc)
+      go (some rule) q f =
+          let x = eqb (length (leaf .variables)) (rule .vars) in
+          let y = eqb (leaf .aside + leftCount (rule .left)) a in
+          let z = countsFit (rule .left) 0 (countsOf (leaf .variables)) in (
+            rule,
+            q,
+            eqb-true (length (leaf .variables)) (rule .vars) (and-left x (y && z) f),
+            eqb-true (leaf .aside + leftCount (rule .left)) a (and-left y z (and-right x (y && z) f)),
+          )

@@ -47,9 +47,10 @@ later-leaf : (fits : LeafNode → Bool) (table : List ℕ) (at : ℕ) (ps : List
 unfolding leafNode
 later-leaf fits table at ps [] = tt
 later-leaf fits table at ps (rule ∷ []) = tt
-later-leaf fits table at ps (rule ∷ n ∷ ws) =
-    later-unless table at (ltb rule 64) (unless (leb n 16) at (leafWith fits at ps n (leafRead rule (variablesIn n ws))))
-    (later-unless table at (leb n 16) (leafWith fits at ps n (leafRead rule (variablesIn n ws))) (later-with fits table at ps n (leafRead rule (variablesIn n ws))))
+later-leaf fits table at ps (rule ∷ n ∷ []) = tt
+later-leaf fits table at ps (rule ∷ n ∷ aside ∷ ws) =
+    later-unless table at (ltb rule 64) (unless (leb n 16) at (leafWith fits at ps n (leafRead rule aside (variablesIn n ws))))
+    (later-unless table at (leb n 16) (leafWith fits at ps n (leafRead rule aside (variablesIn n ws))) (later-with fits table at ps n (leafRead rule aside (variablesIn n ws))))
 
 later-case : (table : List ℕ) (at n : ℕ) (ps : List PartAt) (default : ℕ) (o : Option ℕ) → Later table at (caseNext table at n ps default o)
 later-case table at n ps default none = later-to table at default ps

@@ -1,11 +1,11 @@
 -- What is decided of a node: the same of what is the same; and what is told of the state once it was handed on as decided.
 use mathlib.Core.Path.{_≡_, _∙_}
-use mathlib.Core.Bool.{Bool, false}
+use mathlib.Core.Bool.{Bool, true, false, _&&_}
 use mathlib.Core.List.{List}
-use Prim.Native.Nat.{ℕ, zero, suc, _≤_, _<_}
+use Prim.Native.Nat.{ℕ, zero, suc, _<_}
 use native.Mathlib.Omega.{arith}
+use lib.Dec.{ltb}
 use lib.ListN.{length, getD}
-use borrow.Author.Tests.{lt-ltb, le-ltb}
 use Rattle.tree.specs.Tree.{LeafNode}
 use Rattle.tree.specs.Find.{enterPart}
 use Rattle.walk.specs.Walk.{NoneFits, DamagedAt, Next, Ends, Goes, goTo}
@@ -43,17 +43,13 @@ module _ (table term : List ℕ) (next : (LeafNode → Bool) → Next) (s : Walk
 
 -- ---- an address
 module _ (table term : List ℕ) (s : Walk) (to : ℕ) where
-  pub go-back : to ≤ s .at → Decided table term (λ fits. goTo table (s .at) to (placesOf term s)) s (Stop 3)
+  pub go-out : (ltb (s .at) to && ltb to (length table)) ≡ false → Decided table term (λ fits. goTo table (s .at) to (placesOf term s)) s (Stop 3)
   unfolding goTo
-  go-back l = decided-damaged table term (λ fits. goTo table (s .at) to (placesOf term s)) s (λ fits. rw (le-ltb (s .at) to l))
+  go-out l = decided-damaged table term (λ fits. goTo table (s .at) to (placesOf term s)) s (λ fits. rw l)
 
-  pub go-out : s .at < to → length table ≤ to → Decided table term (λ fits. goTo table (s .at) to (placesOf term s)) s (Stop 3)
-  unfolding goTo
-  go-out l o = decided-damaged table term (λ fits. goTo table (s .at) to (placesOf term s)) s (λ fits. rw (lt-ltb (s .at) to l, le-ltb to (length table) o))
-
-  pub go-in : s .at < to → to < length table → Decided table term (λ fits. goTo table (s .at) to (placesOf term s)) s (Go to)
+  pub go-in : (ltb (s .at) to && ltb to (length table)) ≡ true → Decided table term (λ fits. goTo table (s .at) to (placesOf term s)) s (Go to)
   unfolding goTo Decided
-  go-in l i = λ fits. rw (lt-ltb (s .at) to l, lt-ltb to (length table) i)
+  go-in l = λ fits. rw l
 
 -- ---- the state that lends its fields, and the state that is handed on
 pub holds-seen : (term : List ℕ) (s : Walk) (at : ℕ) → Holds term s → Holds term (seen (s .offsets) (s .depths) (s .entered) (s .count) at)

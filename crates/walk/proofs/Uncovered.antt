@@ -7,7 +7,7 @@ use Prim.Native.Nat.{ℕ, zero, suc, _+_, _≤_, _<_}
 use native.Mathlib.Omega.{arith}
 use lib.ListN.{length, length-drop, getD, drop}
 use Rattle.term.specs.Word.{Head}
-use Rattle.term.specs.Row.{Row, nothing, node, width, words}
+use Rattle.term.specs.Row.{Row, nothing, node, width}
 use Rattle.term.specs.Renumber.{goodList, toBody}
 use Rattle.term.specs.told.Walk.{Stands}
 use Rattle.term.specs.Part.{part, bodyOf, isSome, hasBody, sameO, sameBody}

@@ -1,4 +1,5 @@
--- What matching by the tree answers: document 01's numbers 11, 14, 1, 13, in this order. Its words and lengths are those of matching one rule.
+-- What matching by the tree answers: document 01's numbers 11, 14, 1, 13, in this order. What is set aside, its words and lengths are those of matching
+-- one rule.
 use Prim.Native.Nat.{ℕ}
 use mathlib.Core.List.{List}
 use lib.Dec.{leb}
@@ -9,12 +10,12 @@ use Rattle.term.specs.declared.check.Checked.the-variants.{Good, Bad}
 use Rattle.term.specs.declared.answer.Answer.the-variants.{NoFit, BadTerm, Damaged}
 use Rattle.term.specs.Answer.{Answered, answered}
 use Rattle.term.specs.Check.{check, termLimits}
-use Rattle.fit.specs.Match.{treeOf, bodyList, Matched, refused, fitted, matchAnswer, matchWords, matchLengths}
+use Rattle.fit.specs.Match.{treeOf, bodyList, Matched, refused, fitted, matchAnswer, matchAside, matchWords, matchLengths}
 use Rattle.walk.specs.Walk.{Walked, NoneFits, RuleFits, DamagedAt, walk, noBook}
 
 abbrev pub walkedMatch : Walked → Matched
 walkedMatch NoneFits = refused NoFit
-walkedMatch (RuleFits f n) = fitted n (f .bodies)
+walkedMatch (RuleFits f n) = fitted n (f .aside) (f .bodies)
 walkedMatch (DamagedAt at) = refused (Damaged at)
 
 abbrev pub termMatch : Checked → Walked → Matched
@@ -41,15 +42,16 @@ matchTreeRule room table ws = termRule room (check termLimits ws) (walk noBook t
 pub record MatchTreeOutcome : Type 0 where
   pub said : Answered
   pub rule : ℕ
+  pub aside : ℕ
   pub bodies : List ℕ
   pub lengths : List ℕ
 
-abbrev pub matchTreeCame : Answered → ℕ → List ℕ → List ℕ → MatchTreeOutcome
-matchTreeCame said rule bodies lengths = record { said = said; rule = rule; bodies = bodies; lengths = lengths }
+abbrev pub matchTreeCame : Answered → (rule aside : ℕ) → (bodies lengths : List ℕ) → MatchTreeOutcome
+matchTreeCame said rule aside bodies lengths = record { said = said; rule = rule; aside = aside; bodies = bodies; lengths = lengths }
 
 -- what a rule, or none, gives in a room for bodies
 abbrev pub ruleGives : ℕ → Matched → ℕ → MatchTreeOutcome
-ruleGives room m rule = matchTreeCame (answered (matchAnswer room m)) rule (matchWords room m) (matchLengths room m)
+ruleGives room m rule = matchTreeCame (answered (matchAnswer room m)) rule (matchAside room m) (matchWords room m) (matchLengths room m)
 
 -- what matching a term by the tree gives in a room for bodies
 unfoldable pub matchTreeGives : (tree term : List ℕ) (room : ℕ) → MatchTreeOutcome

@@ -1,11 +1,11 @@
--- Document 01, "Walking": the walk over any list of words, whole or damaged.
+-- Document 01, "Walking": the walk over any list of words, whole or damaged. A Leaf holds what document 02's E2 adds to it.
 use Prim.Native.Nat.{ℕ, zero, suc, _+_, _*_, _-_}
 use mathlib.Core.Bool.{Bool, true, false, _&&_, not}
 use mathlib.Core.List.{List, [], _∷_}
 use mathlib.Core.Option.{Option, none, some}
 use lib.Dec.{eqb, leb, ltb}
 use lib.ListN.{length, getD, take, drop}
-use Rattle.term.specs.Word.{word, pick}
+use Rattle.term.specs.Word.{word, countOf, pick}
 use Rattle.term.specs.Row.{Row, nothing, node}
 use Rattle.term.specs.Renumber.{goodList}
 use Rattle.term.specs.Part.{isSome, sameO}
@@ -13,9 +13,9 @@ use Rattle.book.specs.Rule.{counted}
 use Rattle.book.specs.Book.{Rule, ruleAt}
 use Rattle.fit.specs.Lowest.{Fitting}
 use Rattle.tree.specs.Tree.{LeafVariable, countsOf, LeafNode}
-use Rattle.tree.specs.Find.{PartAt, rootPart, partOf, enterPart, bodyFor, leafFitting}
+use Rattle.tree.specs.Find.{PartAt, rootCount, rootPart, partOf, enterPart, bodyFor, leafFitting}
 
--- how a walk ends: no rule; a rule with its bodies, and how many variables it has; a damaged node at an address
+-- how a walk ends: no rule; a rule with the number of arguments set aside and its bodies, and how many variables it has; a damaged node at an address
 pub data Walked : Type 0 where
   NoneFits : Walked
   RuleFits : Fitting → ℕ → Walked
@@ -35,7 +35,7 @@ unless false at next = Ends (DamagedAt at)
 unfoldable pub goTo : List ℕ → ℕ → ℕ → List PartAt → Next
 goTo table at to ps = unless (ltb at to && ltb to (length table)) at (Goes to ps)
 
--- ---- Leaf: rule, n, then for each variable the place, k, the list
+-- ---- Leaf: rule, n, "after n, how many arguments are set aside", then for each variable the place, k, the list
 abbrev pub variableThen : LeafVariable → Option (List LeafVariable) → Option (List LeafVariable)
 variableThen v none = none
 variableThen v (some vs) = some (v ∷ vs)
@@ -60,9 +60,9 @@ soundVariables ps [] = true
 soundVariables ps (v ∷ vs) = soundVariable ps v && soundVariables ps vs
 
 -- the Leaf of a rule, where its variables were read
-abbrev pub leafRead : ℕ → Option (List LeafVariable) → Option LeafNode
-leafRead rule none = none
-leafRead rule (some vs) = some (record { rule = rule; variables = vs })
+abbrev pub leafRead : (rule aside : ℕ) → Option (List LeafVariable) → Option LeafNode
+leafRead rule aside none = none
+leafRead rule aside (some vs) = some (record { rule = rule; aside = aside; variables = vs })
 
 abbrev pub leafWith : (LeafNode → Bool) → ℕ → List PartAt → ℕ → Option LeafNode → Next
 leafWith fits at ps n none = Ends (DamagedAt at)
@@ -74,7 +74,9 @@ leafWith fits at ps n (some leaf) =
 unfoldable pub leafNode : (LeafNode → Bool) → ℕ → List PartAt → List ℕ → Next
 leafNode fits at ps [] = Ends (DamagedAt at)
 leafNode fits at ps (rule ∷ []) = Ends (DamagedAt at)
-leafNode fits at ps (rule ∷ n ∷ ws) = unless (ltb rule 64) at (unless (leb n 16) at (leafWith fits at ps n (leafRead rule (variablesIn n ws))))
+leafNode fits at ps (rule ∷ n ∷ []) = Ends (DamagedAt at)
+leafNode fits at ps (rule ∷ n ∷ aside ∷ ws) =
+    unless (ltb rule 64) at (unless (leb n 16) at (leafWith fits at ps n (leafRead rule aside (variablesIn n ws))))
 
 -- ---- Switch: place, cases, (head word, address) each, default address
 unfoldable pub isWord : ℕ → Row → Bool
@@ -154,22 +156,27 @@ walkBy (suc n) fits table at ps = follow (walkBy n fits table) (nextAt fits tabl
 unfoldable pub walkFrom : (LeafNode → Bool) → List ℕ → ℕ → List PartAt → Walked
 walkFrom fits table at ps = walkBy (suc (length table - at)) fits table at ps
 
--- a table longer than 16,384 words is damaged at 16,384
-unfoldable pub walk : (LeafNode → Bool) → List ℕ → Row → Walked
-walk fits table t = pick (leb (length table) 16384) (walkFrom fits table 0 (rootPart t)) (DamagedAt 16384)
+-- a table longer than 16,384 words is damaged at 16,384; what is asked of a Leaf is asked by the root's count
+unfoldable pub walk : (ℕ → LeafNode → Bool) → List ℕ → Row → Walked
+walk fits table t = pick (leb (length table) 16384) (walkFrom (fits (rootCount t)) table 0 (rootPart t)) (DamagedAt 16384)
 
--- ---- "Where a book is given too, a Leaf whose rule, n or counts don't fit it is damaged."
+-- ---- "Where a book is given too, a Leaf whose rule, n or counts don't fit it is damaged", and "with a book any other number than a−b"
 unfoldable pub countsFit : List ℕ → ℕ → List ℕ → Bool
 countsFit left x [] = true
 countsFit left x (k ∷ ks) = eqb (counted x left) (suc k) && countsFit left (suc x) ks
 
-abbrev pub ruleFits : Option Rule → LeafNode → Bool
-ruleFits none leaf = false
-ruleFits (some rule) leaf = eqb (length (leaf .variables)) (rule .vars) && countsFit (rule .left) 0 (countsOf (leaf .variables))
+-- how many arguments the root of a left side has: what its first word counts
+abbrev pub leftCount : List ℕ → ℕ
+leftCount left = countOf (getD left 0 0)
 
-unfoldable pub bookFits : List ℕ → LeafNode → Bool
-bookFits book leaf = ruleFits (ruleAt book (leaf .rule)) leaf
+abbrev pub ruleFits : Option Rule → ℕ → LeafNode → Bool
+ruleFits none a leaf = false
+ruleFits (some rule) a leaf =
+    eqb (length (leaf .variables)) (rule .vars) && (eqb (leaf .aside + leftCount (rule .left)) a && countsFit (rule .left) 0 (countsOf (leaf .variables)))
 
--- no book is given
-unfoldable pub noBook : LeafNode → Bool
-noBook leaf = true
+unfoldable pub bookFits : List ℕ → ℕ → LeafNode → Bool
+bookFits book a leaf = ruleFits (ruleAt book (leaf .rule)) a leaf
+
+-- no book is given: "more than the root's count .. is damage"
+unfoldable pub noBook : ℕ → LeafNode → Bool
+noBook a leaf = leb (leaf .aside) a

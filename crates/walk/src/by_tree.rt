@@ -1,13 +1,16 @@
 // Matching by the tree.
 ghost use mathlib.Core.Path.{_≡_};
+ghost use Prim.Native.Nat.{_<_};
 ghost use lib.ListN.{length, replicate};
 ghost use Rattle.term.specs.Answer.{answered};
-ghost use Rattle.walk.specs.told.State.{Parted, WalkTold, walkedHere, walkedGives};
+ghost use Rattle.walk.specs.told.State.{Parted, WalkTold, walkedHere, walkedGives, FindsNone};
 ghost use Rattle.walk.specs.ByTree.{matchTreeCame, matchTreeGives};
+use crate::leaf::first_count;
 use crate::leaf::write_leaf;
 use crate::state::FIRST;
 use crate::state::NO_RULE;
 use crate::state::RULE;
+use crate::state::THIRD;
 use crate::state::Walk;
 use crate::state::walk_tree;
 use term::answer::Answer;
@@ -16,16 +19,28 @@ use term::check::check_term;
 use term::lent::clear;
 use tree::node::MOST_TREE;
 
-// What is said for the rule where none was found.
+// What is said for the rule and for what is set aside where no rule was found.
 const NONE: u32 = 0;
 
-// The answer, and the rule that was found.
+// The answer, the rule that was found, and how many arguments are set aside.
 pub struct TreeMatch {
     pub answer: Answer,
     pub rule: u32,
+    pub aside: u32,
 }
 
-// A walk that ended over a term, with cleared outputs.
+// No rule is found, or there is no room for its bodies.
+fn no_rule(answer: Answer) -> TreeMatch
+    ensures { λ r. ⌜ FindsNone answer r ⌝ }
+{
+    TreeMatch {
+        answer,
+        rule: NONE,
+        aside: NONE,
+    }
+}
+
+// A walk that ended over a term, with cleared outputs. Where no book is given, no more can be set aside than the root has.
 fn match_walk(
     walk: Walk,
     tree: &[u32],
@@ -33,31 +48,27 @@ fn match_walk(
     bodies: &mut [u32],
     lengths: &mut [u32],
 ) -> TreeMatch
-    requires { ⌜ Parted (now term) × WalkTold (now tree) (now term) walk × (now bodies ≡ replicate (length (now bodies)) 0) × (now lengths ≡ replicate 16 0) ⌝ }
-    ensures { λ r. ⌜ matchTreeCame (answered (r .answer)) (r .rule) (now (bodies .exit)) (now (lengths .exit)) ≡ walkedGives (length (now (bodies .entry))) (walkedHere (now (tree .entry)) (now (term .entry))) ⌝ }
+    requires { ⌜ Parted (now term) × (0 < length (now term)) × WalkTold (now tree) (now term) walk × (now bodies ≡ replicate (length (now bodies)) 0) × (now lengths ≡ replicate 16 0) ⌝ }
+    ensures { λ r. ⌜ matchTreeCame (answered (r .answer)) (r .rule) (r .aside) (now (bodies .exit)) (now (lengths .exit)) ≡ walkedGives (length (now (bodies .entry))) (walkedHere (now (tree .entry)) (now (term .entry))) ⌝ }
 {
     let at = walk.at;
     if walk.stands == NO_RULE {
-        return TreeMatch {
-            answer: Answer::NoFit,
-            rule: NONE,
-        };
+        return no_rule(Answer::NoFit);
     }
     if walk.stands != RULE {
-        return TreeMatch {
-            answer: Answer::Damaged(at),
-            rule: NONE,
-        };
+        return no_rule(Answer::Damaged(at));
+    }
+    let aside = tree[at + THIRD];
+    if first_count(term) < aside {
+        return no_rule(Answer::Damaged(at));
     }
     if !write_leaf(walk, tree, term, bodies, lengths) {
-        return TreeMatch {
-            answer: Answer::Short,
-            rule: NONE,
-        };
+        return no_rule(Answer::Short);
     }
     TreeMatch {
         answer: Answer::Done,
         rule: tree[at + FIRST],
+        aside,
     }
 }
 
@@ -68,21 +79,15 @@ pub fn match_tree(
     bodies: &mut [u32],
     lengths: &mut [u32; 16],
 ) -> TreeMatch
-    ensures { λ r. ⌜ matchTreeCame (answered (r .answer)) (r .rule) (now (bodies .exit)) (now (lengths .exit)) ≡ matchTreeGives (now (tree .entry)) (now (term .entry)) (length (now (bodies .entry))) ⌝ }
+    ensures { λ r. ⌜ matchTreeCame (answered (r .answer)) (r .rule) (r .aside) (now (bodies .exit)) (now (lengths .exit)) ≡ matchTreeGives (now (tree .entry)) (now (term .entry)) (length (now (bodies .entry))) ⌝ }
 {
     clear(bodies);
     clear(lengths);
     if let Checked::Bad(at) = check_term(term) {
-        return TreeMatch {
-            answer: Answer::BadTerm(at),
-            rule: NONE,
-        };
+        return no_rule(Answer::BadTerm(at));
     }
     if MOST_TREE < tree.len() {
-        return TreeMatch {
-            answer: Answer::Damaged(MOST_TREE),
-            rule: NONE,
-        };
+        return no_rule(Answer::Damaged(MOST_TREE));
     }
     match_walk(walk_tree(tree, term), tree, term, bodies, lengths)
 }

@@ -1,6 +1,7 @@
 // What a node says, decided from what the walk's state lends of itself: no state is handed on here.
 ghost use mathlib.Core.Path.{_≡_};
-ghost use mathlib.Core.Bool.{Bool};
+ghost use mathlib.Core.Bool.{Bool, _&&_};
+ghost use lib.Dec.{ltb};
 ghost use mathlib.Core.List.{List};
 ghost use Prim.Native.Nat.{ℕ, _<_};
 ghost use lib.ListN.{length};
@@ -8,10 +9,12 @@ ghost use Rattle.walk.specs.told.State.{seen, Parted, Holds, GoTold, Cas
 use crate::leaf::sound_leaf;
 use crate::state::DAMAGED;
 use crate::state::FIRST;
+use crate::state::LEAF_WORDS;
 use crate::state::NO_RULE;
 use crate::state::NODE_WORDS;
 use crate::state::RULE;
 use crate::state::SECOND;
+use crate::state::THIRD;
 use crate::taken::CASE_WORDS;
 use crate::taken::Taken;
 use crate::taken::closed_taken;
@@ -25,9 +28,6 @@ use tree::node::LEAF;
 use tree::node::SAME;
 use tree::node::SWITCH;
 
-// The word of a Same after its two places.
-const THIRD: usize = 3;
-
 // A Same has so many words before its lists.
 const SAME_WORDS: usize = 4;
 
@@ -38,15 +38,25 @@ pub enum Decision {
     Stop(u8),
 }
 
+// Whether an address is later and inside.
+fn leads_on(tree: &[u32], at: usize, to: usize) -> bool
+    ensures { λ r. ⌜ r ≡ (ltb at to && ltb to (length (now (tree .entry)))) ⌝ }
+{
+    if to <= at {
+        return false;
+    }
+    if tree.len() <= to {
+        return false;
+    }
+    true
+}
+
 // The walk goes on at an address that is later and inside.
 fn go_on(tree: &[u32], at: usize, to: u32) -> Decision
     ensures { λ r. ⌜ GoTold (now (tree .entry)) at to r ⌝ }
 {
     let next = to as usize;
-    if next <= at {
-        return Decision::Stop(DAMAGED);
-    }
-    if tree.len() <= next {
+    if !leads_on(tree, at, next) {
         return Decision::Stop(DAMAGED);
     }
     Decision::Go(next)
@@ -60,10 +70,7 @@ fn take_case(tree: &[u32], at: usize, n: usize, entered: bool, to: u32) -> Decis
         return Decision::Stop(DAMAGED);
     }
     let next = to as usize;
-    if next <= at {
-        return Decision::Stop(DAMAGED);
-    }
-    if tree.len() <= next {
+    if !leads_on(tree, at, next) {
         return Decision::Stop(DAMAGED);
     }
     Decision::Enter(n, next)
@@ -164,7 +171,8 @@ fn decide_same(
     }
 }
 
-// Leaf: rule, n, then for each variable the place, k, the list. The whole Leaf is judged.
+// Leaf: rule, n, how many arguments are set aside, then for each variable the place, k, the list. What the number set aside is judged by is not
+// known here; all else is judged.
 fn decide_leaf(
     tree: &[u32],
     term: &[u32],
@@ -176,7 +184,7 @@ fn decide_leaf(
     requires { ⌜ Parted (now term) × ((entered : List Bool) × Holds (now term) (seen (now offsets) (now depths) entered count at)) × (at < length (now tree)) ⌝ }
     ensures { λ r. ⌜ LeafTold (now (tree .entry)) (now (term .entry)) (now (offsets .entry)) (now (depths .entry)) count at r ⌝ }
 {
-    if tree.len() - at < NODE_WORDS {
+    if tree.len() - at < LEAF_WORDS {
         return Decision::Stop(DAMAGED);
     }
     if MOST_RULES <= tree[at + FIRST] {
@@ -186,7 +194,7 @@ fn decide_leaf(
     if MOST_VARS < n {
         return Decision::Stop(DAMAGED);
     }
-    if !sound_leaf(tree, term, offsets, depths, count, at + NODE_WORDS, n) {
+    if !sound_leaf(tree, term, offsets, depths, count, at + LEAF_WORDS, n) {
         return Decision::Stop(DAMAGED);
     }
     Decision::Stop(RULE)

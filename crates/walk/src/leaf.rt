@@ -1,11 +1,12 @@
-// A Leaf: rule, n, then for each variable the place, k, the list.
+// A Leaf: rule, n, how many arguments are set aside, then for each variable the place, k, the list.
 ghost use mathlib.Core.Path.{_≡_};
 ghost use Prim.Native.Nat.{_≤_};
 ghost use mathlib.Core.Bool.{Bool};
 ghost use mathlib.Core.List.{List};
-ghost use lib.ListN.{length, replicate};
+ghost use lib.ListN.{length, getD, replicate};
+ghost use Rattle.term.specs.Word.{countOf};
 ghost use Rattle.walk.specs.told.State.{seen, Parted, Holds, SoundTold, LeafSound, PartWritten, LeafWritten};
-use crate::state::NODE_WORDS;
+use crate::state::LEAF_WORDS;
 use crate::state::SECOND;
 use crate::state::Walk;
 use term::lent::clear;
@@ -15,12 +16,23 @@ use term::part::is_closed;
 use term::part::part_end;
 use term::part::write_body;
 use term::renumber::Passed;
+use term::word::count_of;
 
 // Where the k of a variable is, after its place.
 pub const K_AT: usize = 1;
 
 // A variable has so many words before its list.
 pub const VARIABLE_WORDS: usize = 2;
+
+// How many arguments the first of these words counts; 0 where there is none.
+pub fn first_count(words: &[u32]) -> u32
+    ensures { λ r. ⌜ r ≡ countOf (getD (now (words .entry)) 0 0) ⌝ }
+{
+    if words.len() == 0 {
+        return 0;
+    }
+    count_of(words[0])
+}
 
 // Whether the variables from an address on are sound: each place is uncovered, each list is one for it, and each part has a body.
 pub fn sound_leaf(
@@ -94,7 +106,7 @@ pub fn write_leaf(
 {
     let node = walk.at;
     let vars = tree[node + SECOND] as usize;
-    let mut at = node + NODE_WORDS;
+    let mut at = node + LEAF_WORDS;
     let mut to = 0;
     let mut x: usize = 0;
     while x < vars {

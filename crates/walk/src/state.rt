@@ -27,8 +27,13 @@ pub const FIRST: usize = 1;
 
 pub const SECOND: usize = 2;
 
-// A Leaf, Switch or Closed has so many words before its variables, cases or list.
+pub const THIRD: usize = 3;
+
+// A Switch or Closed has so many words before its cases or list.
 pub const NODE_WORDS: usize = 3;
+
+// A Leaf has so many words before its variables.
+pub const LEAF_WORDS: usize = 4;
 
 // For each uncovered place the offset of its part in the term, the abstractions passed, and whether it was entered.
 pub struct Walk {

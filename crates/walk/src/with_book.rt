@@ -2,17 +2,21 @@
 ghost use mathlib.Core.Path.{_≡_};
 ghost use Prim.Native.Nat.{_+_, _≤_, _<_};
 ghost use lib.ListN.{length, drop, replicate};
-ghost use Rattle.walk.specs.Walk.{variablesIn};
+ghost use lib.Dec.{eqb};
+ghost use Rattle.walk.specs.Walk.{variablesIn, leftCount};
 ghost use Rattle.walk.specs.told.State.{Parted, WalkTold};
 ghost use Rattle.walk.specs.told.WithBook.{bookWalk, countsIn, leafFits, SkipTold, BookWalked};
 use crate::leaf::K_AT;
 use crate::leaf::VARIABLE_WORDS;
+use crate::leaf::first_count;
 use crate::leaf::write_leaf;
 use crate::state::FIRST;
+use crate::state::LEAF_WORDS;
 use crate::state::NO_RULE;
 use crate::state::NODE_WORDS;
 use crate::state::RULE;
 use crate::state::SECOND;
+use crate::state::THIRD;
 use crate::state::Walk;
 use crate::state::walk_tree;
 use crate::taken::CASE_WORDS;
@@ -61,10 +65,24 @@ fn counts_fit(tree: &[u32], from: usize, n: u32, left: &[u32]) -> bool
     true
 }
 
-// Whether the Leaf at an address fits the book: its rule is there, with as many variables, and these with the counts of its left side.
-fn leaf_fits(book: &[u32], tree: &[u32], at: usize) -> bool
-    requires { ⌜ at + 3 ≤ length (now tree) ⌝ }
-    ensures { λ r. ⌜ r ≡ leafFits (now (book .entry)) (now (tree .entry)) at ⌝ }
+// Whether a root has just so many more arguments than a left side as are set aside.
+fn aside_fits(aside: u32, left: &[u32], arguments: u32) -> bool
+    ensures { λ r. ⌜ r ≡ eqb (aside + leftCount (now (left .entry))) arguments ⌝ }
+{
+    if arguments < aside {
+        return false;
+    }
+    if first_count(left) != arguments - aside {
+        return false;
+    }
+    true
+}
+
+// Whether the Leaf at an address fits the book, for a root with so many arguments: its rule is there, with as many variables, just what the left side
+// does not take is set aside, and the variables have the counts of the left side.
+fn leaf_fits(book: &[u32], tree: &[u32], at: usize, arguments: u32) -> bool
+    requires { ⌜ at + 4 ≤ length (now tree) ⌝ }
+    ensures { λ r. ⌜ r ≡ leafFits (now (book .entry)) arguments (now (tree .entry)) at ⌝ }
 {
     let Found::Rule(sides) = find_rule(book, tree[at + FIRST]) else {
         return false;
@@ -73,9 +91,13 @@ fn leaf_fits(book: &[u32], tree: &[u32], at: usize) -> bool
     if sides.vars != n {
         return false;
     }
-    let left = sides.left;
-    let right = sides.right;
-    counts_fit(tree, at + NODE_WORDS, n, &book[left..right])
+    let from = sides.left;
+    let to = sides.right;
+    let left = &book[from..to];
+    if !aside_fits(tree[at + THIRD], left, arguments) {
+        return false;
+    }
+    counts_fit(tree, at + LEAF_WORDS, n, left)
 }
 
 // Whether the tree's root is a Switch on the place 0 that has no case for a word, and its default is a Fail. No state is needed to say so.
@@ -131,7 +153,7 @@ fn match_with(
     if walk.stands != RULE {
         return BookMatch::Damaged(at);
     }
-    if !leaf_fits(book, tree, at) {
+    if !leaf_fits(book, tree, at, first_count(term)) {
         return BookMatch::Damaged(at);
     }
     write_leaf(walk, tree, term, bodies, lengths);

@@ -10,15 +10,17 @@ use Rattle.term.specs.Row.{Row, words, nesting}
 use Rattle.term.specs.told.Walk.{Stands}
 use Rattle.term.specs.Part.{part, bodyOf}
 use lib.Dec.{leb}
+use Rattle.term.specs.declared.answer.Answer.{Answer}
 use Rattle.term.specs.declared.answer.Answer.the-variants.{Done, Short}
 use Rattle.term.specs.declared.renumber.Passed.{Passed}
 use Rattle.term.specs.declared.renumber.Passed.the-variants as step
 use Rattle.fit.specs.Match.{bodyList, fitted, matchAnswer, matchWords, matchLengths}
 use Rattle.tree.specs.Tree.{LeafVariable, LeafNode}
-use Rattle.tree.specs.Find.{PartAt, rootPart, enterPart, bodyOr, leafBody, leafFitting, total}
+use Rattle.tree.specs.Find.{PartAt, rootCount, rootPart, enterPart, bodyOr, leafBody, leafFitting, total}
 use Rattle.walk.specs.Walk.{Walked, NoneFits, RuleFits, DamagedAt, Next, Ends, Goes, unless, goTo, variablesIn, soundVariables, caseNext, switchNode, closedNode, sameNode, leafNode, nextAt, walkFrom, noBook}
 use Rattle.walk.specs.ByTree.{walkedMatch, walkedRule, MatchTreeOutcome, ruleGives}
 use Rattle.walk.specs.declared.state.Walk.{Walk}
+use Rattle.walk.specs.declared.by_tree.TreeMatch.{TreeMatch}
 use Rattle.walk.specs.declared.decide.Decision.{Decision}
 use Rattle.walk.specs.declared.decide.Decision.the-variants.{Enter, Go, Stop}
 
@@ -77,17 +79,17 @@ variablesOr (some vs) = vs
 
 -- the Leaf at an address
 abbrev pub leafIn : List ℕ → ℕ → LeafNode
-leafIn table at = record { rule = getD table (at + 1) 0; variables = variablesOr (variablesIn (getD table (at + 2) 0) (drop (at + 3) table)) }
+leafIn table at = record { rule = getD table (at + 1) 0; aside = getD table (at + 3) 0; variables = variablesOr (variablesIn (getD table (at + 2) 0) (drop (at + 4) table)) }
 
--- the rule of a Leaf at an address, with its bodies
+-- the rule of a Leaf at an address, with what is set aside and its bodies
 abbrev pub leafRule : List ℕ → List PartAt → ℕ → Walked
 leafRule table ps at = RuleFits (leafFitting ps (leafIn table at)) (getD table (at + 2) 0)
 
 -- a Leaf where each variable has a body
 pub record LeafSound (table term : List ℕ) (s : Walk) : Type 0 where
-  pub inside : s .at + 3 ≤ length table
+  pub inside : s .at + 4 ≤ length table
   pub few : getD table (s .at + 2) 0 ≤ 16
-  pub sound : soundLeaf (placesOf term s) (variablesIn (getD table (s .at + 2) 0) (drop (s .at + 3) table)) ≡ true
+  pub sound : soundLeaf (placesOf term s) (variablesIn (getD table (s .at + 2) 0) (drop (s .at + 4) table)) ≡ true
 
 pub record LeafAt (table term : List ℕ) (next : (LeafNode → Bool) → Next) (s : Walk) : Type 0 where
   pub leaf : LeafSound table term s
@@ -172,10 +174,14 @@ WalkTold table term r = Standing table term (λ fits. walkFrom fits table 0 (roo
 
 -- the same where no book is given, and what it gives in a room for bodies
 abbrev pub walkedHere : List ℕ → List ℕ → Walked
-walkedHere table term = walkFrom noBook table 0 (rootPart (partFrom term 0))
+walkedHere table term = walkFrom (noBook (rootCount (partFrom term 0))) table 0 (rootPart (partFrom term 0))
 
 unfoldable pub walkedGives : ℕ → Walked → MatchTreeOutcome
 walkedGives room w = ruleGives room (walkedMatch w) (walkedRule room w)
+
+-- the answer where no rule is found, or where its bodies have no room
+abbrev pub FindsNone : Answer → TreeMatch → Type 0
+FindsNone a r = (r .answer ≡ a) × (r .rule ≡ 0) × (r .aside ≡ 0)
 
 -- ---- the body of a part in a lent slice, zeros after it; Stuck where there is no room for it
 unfoldable pub PartWritten : ℕ → List ℕ → List ℕ → List ℕ → List ℕ → Passed → Type 0
@@ -188,4 +194,5 @@ unfoldable pub LeafWritten : List ℕ → List ℕ → Walk → ℕ → List ℕ
 LeafWritten table term s room bodies lengths r =
     let vars = getD table (s .at + 2) 0 in
     let b = leafBody (placesOf term s) (leafIn table (s .at) .variables) in
-    (leb (length (bodyList b 0 vars)) room ≡ r) × (pick r Done Short ≡ matchAnswer room (fitted vars b)) × (bodies ≡ matchWords room (fitted vars b)) × (lengths ≡ matchLengths room (fitted vars b))
+    let m = fitted vars (leafIn table (s .at) .aside) b in
+    (leb (length (bodyList b 0 vars)) room ≡ r) × (pick r Done Short ≡ matchAnswer room m) × (bodies ≡ matchWords room m) × (lengths ≡ matchLengths room m)

@@ -1,4 +1,5 @@
--- What a walk with a book answers and leaves. "Where a book is given too, a Leaf whose rule, n or counts don't fit it is damaged."
+-- What a walk with a book answers and leaves. "Where a book is given too, a Leaf whose rule, n or counts don't fit it is damaged", and one with any other
+-- number set aside than what the root of the part has more than that of the left side.
 use Prim.Native.Nat.{ℕ, _+_, _-_, _≤_}
 use mathlib.Core.Path.{_≡_}
 use mathlib.Core.Bool.{Bool, true, false}
@@ -23,18 +24,18 @@ abbrev pub countsIn : List ℕ → ℕ → Option (List LeafVariable) → Bool
 countsIn left x none = false
 countsIn left x (some vs) = countsFit left x (countsOf vs)
 
--- whether a Leaf that was read fits the book
-abbrev pub readFits : List ℕ → Option LeafNode → Bool
-readFits book none = false
-readFits book (some leaf) = bookFits book leaf
+-- whether a Leaf that was read fits the book, by the root's count
+abbrev pub readFits : List ℕ → ℕ → Option LeafNode → Bool
+readFits book a none = false
+readFits book a (some leaf) = bookFits book a leaf
 
--- whether the Leaf at an address fits the book
-unfoldable pub leafFits : List ℕ → List ℕ → ℕ → Bool
-leafFits book table at = readFits book (leafRead (getD table (at + 1) 0) (variablesIn (getD table (at + 2) 0) (drop (at + 3) table)))
+-- whether the Leaf at an address fits the book, by the root's count
+unfoldable pub leafFits : List ℕ → ℕ → List ℕ → ℕ → Bool
+leafFits book a table at = readFits book a (leafRead (getD table (at + 1) 0) (getD table (at + 3) 0) (variablesIn (getD table (at + 2) 0) (drop (at + 4) table)))
 
 -- what is told of a tree's root and a word: where it is true, no rule fits a term that begins with the word
 abbrev pub SkipTold : List ℕ → ℕ → Bool → Type 0
-SkipTold table w true = (fits : LeafNode → Bool) (t : Row) → ((v : ℕ) → isWord v t ≡ eqb v w) → length table ≤ 16384 → walk fits table t ≡ NoneFits
+SkipTold table w true = (fits : ℕ → LeafNode → Bool) (t : Row) → ((v : ℕ) → isWord v t ≡ eqb v w) → length table ≤ 16384 → walk fits table t ≡ NoneFits
 SkipTold table w false = Unit {0}
 
 -- 16 bodies of at most 4,096 words always have room in 65,536 words: the bodies in variable order and their lengths, zeros after them

@@ -32,19 +32,19 @@ sound-leaf-requires : tie.Need-sound-leaf-requires
 sound-leaf-requires c κs =
     let start = c .before .before .before .before .before .before .before .before .before in
     let s = start .args in
-    (start .pre .0, (start .pre .1 .0, holds-seen (s .term .now) (seen (s .offsets .now) (s .depths .now) (start .pre .1 .0) (s .count) (s .at)) (s .at + 3) (start .pre .1 .1)), omega (arith, c .before .before .before .before .if1 .left))
+    (start .pre .0, (start .pre .1 .0, holds-seen (s .term .now) (seen (s .offsets .now) (s .depths .now) (start .pre .1 .0) (s .count) (s .at)) (s .at + 4) (start .pre .1 .1)), omega (arith, c .before .before .before .before .if1 .left))
 
 returns-4 : tie.Need-returns-4
 returns-4 c =
     let start = c .before .before .before .before .before .before .before .before .before .before .before in
     let s = start .args in
-    λ entered h. leaf-unsound (s .tree .now) (s .term .now) (seen (s .offsets .now) (s .depths .now) entered (s .count) (s .at)) (omega (arith, c .before .before .before .before .before .before .if1 .left)) (omega (arith, c .before .before .before .before .if2 .left)) (omega (arith, c .before .before .if3 .left)) (sym (not-true _ (c .if4 .taken)) ∙ c .before .sound-leaf .ensures entered (holds-seen (s .term .now) (seen (s .offsets .now) (s .depths .now) entered (s .count) (s .at)) (s .at + 3) h))
+    λ entered h. leaf-unsound (s .tree .now) (s .term .now) (seen (s .offsets .now) (s .depths .now) entered (s .count) (s .at)) (omega (arith, c .before .before .before .before .before .before .if1 .left)) (omega (arith, c .before .before .before .before .if2 .left)) (omega (arith, c .before .before .if3 .left)) (sym (not-true _ (c .if4 .taken)) ∙ c .before .sound-leaf .ensures entered (holds-seen (s .term .now) (seen (s .offsets .now) (s .depths .now) entered (s .count) (s .at)) (s .at + 4) h))
 
 returns-5 : tie.Need-returns-5
 returns-5 c =
     let start = c .before .before .before .before .before .before .before .before .before .before .before in
     let s = start .args in
-    λ entered h. leaf-found (s .tree .now) (s .term .now) (seen (s .offsets .now) (s .depths .now) entered (s .count) (s .at)) (omega (arith, c .before .before .before .before .before .before .if1 .left)) (omega (arith, c .before .before .before .before .if2 .left)) (omega (arith, c .before .before .if3 .left)) (sym (not-false _ (c .if4 .left)) ∙ c .before .sound-leaf .ensures entered (holds-seen (s .term .now) (seen (s .offsets .now) (s .depths .now) entered (s .count) (s .at)) (s .at + 3) h))
+    λ entered h. leaf-found (s .tree .now) (s .term .now) (seen (s .offsets .now) (s .depths .now) entered (s .count) (s .at)) (omega (arith, c .before .before .before .before .before .before .if1 .left)) (omega (arith, c .before .before .before .before .if2 .left)) (omega (arith, c .before .before .if3 .left)) (sym (not-false _ (c .if4 .left)) ∙ c .before .sound-leaf .ensures entered (holds-seen (s .term .now) (seen (s .offsets .now) (s .depths .now) entered (s .count) (s .at)) (s .at + 4) h))
 
 pub decide-leaf-spec : {M : Type 1} → statement M
 decide-leaf-spec =

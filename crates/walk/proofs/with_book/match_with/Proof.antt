@@ -22,40 +22,44 @@ returns-2 c =
 
 leaf-fits-requires : tie.Need-leaf-fits-requires
 leaf-fits-requires c κs =
-    let start = c .before .before .before .before .before .before .before .before .before in
-    let s = start .args in ended-sound (s .tree .now) (s .term .now) (s .walk) (start .pre .2) (c .if2 .left) .inside
+    let start = c .before .before .before .before .before .before .before .before .before .before in
+    let s = start .args in ended-sound (s .tree .now) (s .term .now) (s .walk) (start .pre .2) (c .before .if2 .left) .inside
 
 returns-3 : tie.Need-returns-3
 returns-3 c =
-    let start = c .before .before .before .before .before .before .before .before .before .before .before in
-    let s = start .args in with-unfit (s .book .now) (s .tree .now) (s .term .now) (start .pre .3) (s .walk) (start .pre .2) _ _ _ (c .before .before .if2 .left) (start .pre .4) (start .pre .5) (sym (c .before .leaf-fits .ensures) ∙ not-true _ (c .if3 .taken)) refl
+    let start = c .before .before .before .before .before .before .before .before .before .before .before .before in
+    let s = start .args in
+    with-unfit (s .book .now) (s .tree .now) (s .term .now) (start .pre .3) (s .walk) (start .pre .2) _ _ _ (c .before .before .before .if2 .left) (start .pre .0) (start .pre .1) _ (c .before .before .first-count .ensures) (start .pre .4) (start .pre .5) (sym (c .before .leaf-fits .ensures) ∙ not-true _ (c .if3 .taken)) refl
 
 write-leaf-requires : tie.Need-write-leaf-requires
 write-leaf-requires c κs =
-    let start = c .before .before .before .before .before .before .before .before .before .before .before .before .before in
+    let start = c .before .before .before .before .before .before .before .before .before .before .before .before .before .before in
     let s = start .args in
-    (start .pre .0, ended-holds (s .tree .now) (s .term .now) (s .walk) (start .pre .2), ended-sound (s .tree .now) (s .term .now) (s .walk) (start .pre .2) (c .before .before .before .before .if2 .left), start .pre .4 ∙ ap (λ (n : ℕ). replicate n 0) (sym (ap length (start .pre .4))), start .pre .5)
+    (start .pre .0, ended-holds (s .tree .now) (s .term .now) (s .walk) (start .pre .2), ended-sound (s .tree .now) (s .term .now) (s .walk) (start .pre .2) (c .before .before .before .before .before .if2 .left), start .pre .4 ∙ ap (λ (n : ℕ). replicate n 0) (sym (ap length (start .pre .4))), start .pre .5)
 
-add-t14 : tie.Need-add-t14
-add-t14 c =
-    let start = c .before .before .before .before .before .before .before .before .before .before .before .before .before .before .before .before .before .before in
-    let s = start .args in let l = ended-sound (s .tree .now) (s .term .now) (s .walk) (start .pre .2) (c .before .before .before .before .before .before .before .before .before .if2 .left) in omega (arith, l .inside)
-
-mul-t15 : tie.Need-mul-t15
-mul-t15 c =
-    let start = c .before .before .before .before .before .before .before .before .before .before .before .before .before .before .before .before .before .before in
-    let s = start .args in let l = ended-sound (s .tree .now) (s .term .now) (s .walk) (start .pre .2) (c .before .before .before .before .before .before .before .before .before .if2 .left) in omega (arith, l .inside)
-
-shared-slice-read-t17 : tie.Need-shared-slice-read-t17
-shared-slice-read-t17 c =
+add-t15 : tie.Need-add-t15
+add-t15 c =
     let start = c .before .before .before .before .before .before .before .before .before .before .before .before .before .before .before .before .before .before .before in
-    let s = start .args in let l = ended-sound (s .tree .now) (s .term .now) (s .walk) (start .pre .2) (c .before .before .before .before .before .before .before .before .before .before .if2 .left) in omega (arith, l .inside)
+    let s = start .args in
+    omega (arith, ended-sound (s .tree .now) (s .term .now) (s .walk) (start .pre .2) (c .before .before .before .before .before .before .before .before .before .before .if2 .left) .inside)
+
+mul-t16 : tie.Need-mul-t16
+mul-t16 c =
+    let start = c .before .before .before .before .before .before .before .before .before .before .before .before .before .before .before .before .before .before .before in
+    let s = start .args in
+    omega (arith, ended-sound (s .tree .now) (s .term .now) (s .walk) (start .pre .2) (c .before .before .before .before .before .before .before .before .before .before .if2 .left) .inside)
+
+shared-slice-read-t9 : tie.Need-shared-slice-read-t9
+shared-slice-read-t9 c =
+    let start = c .before .before .before .before .before .before .before .before .before .before .before .before .before .before .before .before .before .before .before .before in
+    let s = start .args in
+    omega (arith, ended-sound (s .tree .now) (s .term .now) (s .walk) (start .pre .2) (c .before .before .before .before .before .before .before .before .before .before .before .if2 .left) .inside)
 
 returns-4 : tie.Need-returns-4
 returns-4 c =
-    let start = c .before .before .before .before .before .before .before .before .before .before .before .before .before .before .before .before .before .before .before in
+    let start = c .before .before .before .before .before .before .before .before .before .before .before .before .before .before .before .before .before .before .before .before in
     let s = start .args in
-    with-rule (s .book .now) (s .tree .now) (s .term .now) (start .pre .3) (s .walk) (start .pre .2) _ _ _ (c .before .before .before .before .before .before .before .before .before .before .if2 .left) (start .pre .0) (start .pre .1) (sym (c .before .before .before .before .before .before .before .before .before .leaf-fits .ensures) ∙ not-false _ (c .before .before .before .before .before .before .before .before .if3 .left)) _ (ap length (start .pre .4) ∙ length-replicate {A = ℕ} 65536 0) _ (c .before .before .before .before .before .write-leaf .ensures) refl
+    with-rule (s .book .now) (s .tree .now) (s .term .now) (start .pre .3) (s .walk) (start .pre .2) _ _ _ (c .before .before .before .before .before .before .before .before .before .before .before .if2 .left) (start .pre .0) (start .pre .1) _ (c .before .before .before .before .before .before .before .before .before .before .first-count .ensures) (sym (c .before .before .before .before .before .before .before .before .before .leaf-fits .ensures) ∙ not-false _ (c .before .before .before .before .before .before .before .before .if3 .left)) _ (ap length (start .pre .4) ∙ length-replicate {A = ℕ} 65536 0) _ (c .before .before .before .before .before .write-leaf .ensures) refl
 
 pub match-with-spec : {M : Type 1} → statement M
 match-with-spec =
@@ -63,12 +67,13 @@ match-with-spec =
     (tie.spec
     returns
     returns-2
+    (λ c κs. search needs)
     leaf-fits-requires
     returns-3
     write-leaf-requires
-    add-t14
-    mul-t15
-    shared-slice-read-t17
+    add-t15
+    mul-t16
+    shared-slice-read-t9
     (λ c. search needs)
     (λ c. search needs)
     returns-4)
