@@ -171,8 +171,8 @@ fn decide_same(
     }
 }
 
-// Leaf: rule, n, how many arguments are set aside, then for each variable the place, k, the list. What the number set aside is judged by is not
-// known here; all else is judged.
+// Leaf: rule, n, how many arguments are set aside, then for each variable the place, k, the list. All is judged but the number set aside: that is
+// judged where the walk has ended, by the root's count or by the book.
 fn decide_leaf(
     tree: &[u32],
     term: &[u32],
