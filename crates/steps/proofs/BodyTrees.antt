@@ -26,16 +26,16 @@ use Rattle.steps.proofs.Depths.{length-ids}
 use Rattle.steps.proofs.BodyLaws.{width-body, variable-tree, node-tree}
 
 module _ (bodies : List ℕ) (from : ℕ) where
-  record OneBody (q : Row) (beyond : List ℕ) : Type 0 where
-    head : Head
-    kids : Row
-    is : q ≡ node head kids nothing
-    table : InTable head
-    full : width kids ≡ Word.count head
-    low : rank head ≤ 2
-    word-is : word head ≡ getD bodies from 0
-    below : TermStands (countOf (getD bodies from 0)) bodies (from + 1) kids beyond
-    long : length (words q) ≡ 1 + length (words kids)
+  pub record OneBody (q : Row) (beyond : List ℕ) : Type 0 where
+    pub head : Head
+    pub kids : Row
+    pub is : q ≡ node head kids nothing
+    pub table : InTable head
+    pub full : width kids ≡ Word.count head
+    pub low : rank head ≤ 2
+    pub word-is : word head ≡ getD bodies from 0
+    pub below : TermStands (countOf (getD bodies from 0)) bodies (from + 1) kids beyond
+    pub long : length (words q) ≡ 1 + length (words kids)
 
   one-node : (h : Head) (kids : Row) (beyond : List ℕ) → TermStands 1 bodies from (node h kids nothing) beyond → OneBody (node h kids nothing) beyond
   one-node h kids beyond s =
@@ -60,7 +60,7 @@ module _ (bodies : List ℕ) (from : ℕ) where
         long = ap length (words-tree h kids) ∙ omega arith;
       }
 
-  one-body : (q : Row) (beyond : List ℕ) → TermStands 1 bodies from q beyond → OneBody q beyond
+  pub one-body : (q : Row) (beyond : List ℕ) → TermStands 1 bodies from q beyond → OneBody q beyond
   one-body nothing beyond s = absurd (omega (arith, s .wide, width-nothing))
   one-body (node h kids nothing) beyond s = one-node h kids beyond s
   one-body (node h kids (node g ks rest)) beyond s = absurd (omega (arith, s .wide, width-node h kids (node g ks rest), width-node g ks rest))
@@ -144,30 +144,30 @@ module _ (u : Under) (e count levels : ℕ) (right : List ℕ) (at : ℕ) (bodie
             (rw (passed, x .word-is) (told vars k b kids after (x .kids) beyond s g (x .below) (omega (arith, room)))))
 
 -- ---- the body of a pattern variable
+pub whole-body : (bodies lengths : List ℕ) (x vars : ℕ) (b : ℕ → Row) → BodiesStand vars bodies lengths b → x < vars
+    → TermStands 1 bodies (startOf lengths x) (b x) (drop (getD lengths x 0) (drop (startOf lengths x) bodies))
+whole-body bodies lengths x vars b g l =
+    let i = g .body x l in
+    let n = drop (startOf lengths x) bodies in
+    record {
+      formed = i .within .formed;
+      few = i .within .few;
+      low = i .within .low;
+      wide = i .one;
+      same = sym (take-append-drop (getD lengths x 0) n) ∙ ap (λ (ws : List ℕ). ws ++ drop (getD lengths x 0) (drop (startOf lengths x) bodies)) (sym (g .same x l ∙ words-at-are bodies lengths x));
+    }
+
 module _ (u : Under) (levels w : ℕ) (right : List ℕ) (at : ℕ) (bodies lengths out : List ℕ) (to : ℕ) (done : List ℕ) where
   pub pattern-none : 16 ≤ identOf w → PatternTold u levels w right at bodies lengths out to done step.Stuck
   unfolding PatternTold
   pattern-none h vars k b kids after s g x l = absurd (omega (arith, h, x, g .few))
 
-  whole-body : (vars : ℕ) (b : ℕ → Row) → BodiesStand vars bodies lengths b → identOf w < vars
-      → TermStands 1 bodies (startOf lengths (identOf w)) (b (identOf w)) (drop (getD lengths (identOf w) 0) (drop (startOf lengths (identOf w)) bodies))
-  whole-body vars b g x =
-      let i = g .body (identOf w) x in
-      let n = drop (startOf lengths (identOf w)) bodies in
-      record {
-        formed = i .within .formed;
-        few = i .within .few;
-        low = i .within .low;
-        wide = i .one;
-        same = sym (take-append-drop (getD lengths (identOf w) 0) n) ∙ ap (λ (ws : List ℕ). ws ++ drop (getD lengths (identOf w) 0) (drop (startOf lengths (identOf w)) bodies)) (sym (g .same (identOf w) x ∙ words-at-are bodies lengths (identOf w)));
-      }
-
   pub pattern-wrote : (a c : ℕ) → BodyTold u 0 (countOf w) levels 1 right at bodies (startOf lengths (identOf w)) lengths out to done (Done a c) → PatternTold u levels w right at bodies lengths out to done (step.Done c)
   unfolding PatternTold BodyTold
   pattern-wrote a c told vars k b kids after s g x l =
-      told vars k b kids after (b (identOf w)) (drop (getD lengths (identOf w) 0) (drop (startOf lengths (identOf w)) bodies)) s g (whole-body vars b g x) l .1
+      told vars k b kids after (b (identOf w)) (drop (getD lengths (identOf w) 0) (drop (startOf lengths (identOf w)) bodies)) s g (whole-body bodies lengths (identOf w) vars b g x) l .1
 
   pub pattern-stuck : BodyTold u 0 (countOf w) levels 1 right at bodies (startOf lengths (identOf w)) lengths out to done Stuck → PatternTold u levels w right at bodies lengths out to done step.Stuck
   unfolding PatternTold BodyTold
   pattern-stuck told vars k b kids after s g x l =
-      told vars k b kids after (b (identOf w)) (drop (getD lengths (identOf w) 0) (drop (startOf lengths (identOf w)) bodies)) s g (whole-body vars b g x) l
+      told vars k b kids after (b (identOf w)) (drop (getD lengths (identOf w) 0) (drop (startOf lengths (identOf w)) bodies)) s g (whole-body bodies lengths (identOf w) vars b g x) l

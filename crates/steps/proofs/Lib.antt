@@ -14,6 +14,8 @@ mod Singles
 mod BodyLaws
 mod BodyTrees
 mod WholeRight
+mod WrittenRoots
+mod AsideWords
 mod Offsets
 mod Limits
 mod Steps

@@ -32,6 +32,9 @@ pub child-later : (right : List ℕ) (j at : ℕ) → at ≤ childAt right at j
 child-later right zero at = rw (child-none right at) (omega arith)
 child-later right (suc j) at = let r = child-later right j (nextTree right at) in rw (child-next right at j) (omega (arith, r))
 
+pub child-onward : (right : List ℕ) (at j r : ℕ) → r ≡ childAt right at j → at ≤ r
+child-onward right at j r e = rw e (child-later right j at)
+
 pub next-step : (right : List ℕ) (at r : ℕ) → at ≤ length right → r ≡ nextTree right at → r ≤ length right
 next-step right at r h e = rw e (next-within right at h)
 
@@ -46,7 +49,7 @@ pub child-end : (right : List ℕ) (at more : ℕ) → more ≡ 0 → childAt ri
 child-end right at more z = rw z (child-none right at)
 
 -- ---- a row by its first tree
-split-words : (h : Head) (kids rest : Row) (after : List ℕ) → words (node h kids rest) ++ after ≡ words (node h kids nothing) ++ (words rest ++ after)
+pub split-words : (h : Head) (kids rest : Row) (after : List ℕ) → words (node h kids rest) ++ after ≡ words (node h kids nothing) ++ (words rest ++ after)
 split-words h kids rest after = rw (words-node h kids rest, words-tree h kids) (ap (word h ∷_) (append-assoc (words kids) (words rest) after))
 
 begins : (at : ℕ) (ws : List ℕ) (h : Head) (kids rest : Row) (after : List ℕ) → drop at ws ≡ words (node h kids rest) ++ after → at < length ws
@@ -54,7 +57,7 @@ begins at ws h kids rest after e =
     let n : length (drop at ws) ≡ suc (length ((words kids ++ words rest) ++ after)) = ap length e ∙ rw (words-node h kids rest) in
     omega (arith, n, length-drop at ws)
 
-tree-ends : (t : Row) → Formed t → width t ≡ 1 → (ws after : List ℕ) → ws ≡ words t ++ after → partEnd ws ≡ length (words t)
+pub tree-ends : (t : Row) → Formed t → width t ≡ 1 → (ws after : List ℕ) → ws ≡ words t ++ after → partEnd ws ≡ length (words t)
 tree-ends t f w ws after e =
     let p : past 1 (words t ++ after) ≡ length (words t) = rw w at (past-words t f after) in
     part-past ws ∙ ap (past 1) e ∙ p

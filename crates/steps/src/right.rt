@@ -43,7 +43,7 @@ fn next_tree(right: &[u32], at: usize) -> usize
 }
 
 // The offset of the tree that is j trees further on.
-fn child_at(right: &[u32], at: usize, j: u32) -> usize
+pub fn child_at(right: &[u32], at: usize, j: u32) -> usize
     requires { ⌜ at ≤ length (now right) ⌝ }
     ensures { λ r. ⌜ r ≡ childAt (now (right .entry)) at j ⌝ }
 {
