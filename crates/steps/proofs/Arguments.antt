@@ -3,17 +3,18 @@ use mathlib.Core.Path.{_≡_, refl, sym, ap, _∙_}
 use mathlib.Core.Bool.{Bool, true, false, _&&_}
 use mathlib.Core.List.{_∷_, _++_, append-nil}
 use mathlib.Core.Option.{none, some}
-use Prim.Native.Nat.{ℕ, suc, _+_, _≤_, _<_, max}
+use Prim.Native.Nat.{ℕ, suc, _+_, _*_, _≤_, _<_, max}
 use native.Mathlib.Omega.{arith}
 use lib.Dec.{leb}
-use lib.ListN.{length, length-append, drop}
+use lib.ListN.{length, length-append, getD, drop}
 use borrow.Author.Tests.{leb-true}
 use Rattle.term.specs.Word.{symbol, abstraction, variable, pattern, word}
-use Rattle.term.specs.Row.{Row, nothing, node, width, words, nesting, ranks, Formed, _⧺_}
-use Rattle.term.proofs.Laws.{never, count-symbol, width-nothing, width-node, width-join, words-nothing, words-node, words-join, nesting-node, nesting-join, ranks-node, ranks-join, rank-symbol, join-nothing-left, join-node, formed-node, node-formed, formed-join, symbol-table, symbol-few}
+use Rattle.term.specs.Row.{Row, nothing, node, width, words, nesting, ranks, Formed, _⧺_, firsts, others}
+use Rattle.term.proofs.Laws.{never, count-symbol, width-nothing, width-node, width-join, words-nothing, words-node, words-join, nesting-node, nesting-join, ranks-node, ranks-join, rank-symbol, join-nothing-left, join-node, formed-node, node-formed, formed-join, symbol-table, symbol-few, word-symbol, firsts-others, formed-others}
 use Rattle.fit.specs.Build.{largest, withinLimits}
-use Rattle.fit.specs.Front.{withArguments}
-use Rattle.fit.proofs.Laws.{with-arguments-symbol, largest-nothing, largest-node, within-limits-is}
+use Rattle.fit.specs.Fit.{IsBody}
+use Rattle.fit.specs.Front.{asideArguments, withArguments}
+use Rattle.fit.proofs.Laws.{aside-arguments-node, with-arguments-symbol, largest-nothing, largest-node, within-limits-is}
 use Rattle.steps.specs.Arguments.{takes, withAside}
 use Rattle.steps.proofs.Replaced.{none-wide}
 use Rattle.steps.proofs.Shaped.{Shaped, shaped-join}
@@ -63,6 +64,7 @@ long-node i c kids rest = ap length (words-node (symbol i c) kids rest) ∙ ap s
 pub record Taken (r more s : Row) : Type 0 where
   pub wide : width s ≡ width r
   pub first : ℕ
+  pub grown : first ≡ getD (words r) 0 0 + width more * 65536
   pub same : width r ≡ 1 → words s ≡ first ∷ (drop 1 (words r) ++ words more)
   pub long : length (words s) ≡ length (words r) + length (words more)
   pub deep : nesting s ≡ max (nesting r) (suc (nesting more))
@@ -102,11 +104,15 @@ module _ (i c : ℕ) (kids rest more : Row) (few : c + width more ≤ 15) where
   node-long =
       omega (arith, long-node i c kids rest, long-node i (c + width more) (kids ⧺ more) rest, ap length (words-join kids more) ∙ length-append (words kids) (words more))
 
+  node-grown : word (symbol i (c + width more)) ≡ getD (words (node (symbol i c) kids rest)) 0 0 + width more * 65536
+  node-grown = rw (words-node (symbol i c) kids rest) (omega (arith, word-symbol i c, word-symbol i (c + width more)))
+
   node-taken : Taken (node (symbol i c) kids rest) more (node (symbol i (c + width more)) (kids ⧺ more) rest)
   node-taken =
       record {
         wide = width-node (symbol i (c + width more)) (kids ⧺ more) rest ∙ sym (width-node (symbol i c) kids rest);
         first = word (symbol i (c + width more));
+        grown = node-grown;
         same = node-words;
         long = node-long;
         deep = omega (arith, nesting-node (symbol i c) kids rest, nesting-node (symbol i (c + width more)) (kids ⧺ more) rest, nesting-join kids more);
@@ -164,3 +170,22 @@ module _ (r more s : Row) (e : withAside r more ≡ some s) where
   pub aside-limits : 0 < width more
       → withinLimits s ≡ leb (length (words r) + length (words more)) 4096 && (leb (max (nesting r) (suc (nesting more))) 64 && leb (max (largest r) (largest more)) 65535)
   aside-limits l = let t = aside-taken r more s l e in within-limits-is s ∙ rw (t .long, t .deep, t .large)
+
+-- ---- the arguments set aside of a term
+pub record AsideIs (more : Row) : Type 0 where
+  pub formed : Formed more
+  pub few : ranks more ≤ 2
+  pub low : suc (nesting more) ≤ 64
+
+pub aside-is : (b : ℕ) (t : Row) → IsBody t → AsideIs (asideArguments b t)
+aside-is b nothing i = absurd (omega (arith, i .one, width-nothing))
+aside-is b (node h kids rest) i =
+    let r : ranks kids ≡ max (ranks (firsts b kids)) (ranks (others b kids)) = ap ranks (sym (firsts-others b kids)) ∙ ranks-join (firsts b kids) (others b kids) in
+    let n : nesting kids ≡ max (nesting (firsts b kids)) (nesting (others b kids)) = ap nesting (sym (firsts-others b kids)) ∙ nesting-join (firsts b kids) (others b kids) in
+    let w = i .within in
+    rw (aside-arguments-node b h kids rest)
+    (record {
+      formed = formed-others b kids (formed-node h kids rest (w .formed) .below);
+      few = omega (arith, ranks-node h kids rest, r, w .few);
+      low = omega (arith, nesting-node h kids rest, n, w .low);
+    })

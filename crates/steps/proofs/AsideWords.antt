@@ -109,11 +109,11 @@ module _ (part : List ℕ) (parted : Parted part) (some-words : 0 < length part)
         let p = part-here in
         ap (aside b) (p .is) ∙ aside-node b (p .head) (p .kids) nothing ∙ ap (λ (n : ℕ). n - b) (sym (count-word (p .head) (p .table)) ∙ ap countOf (p .first))
 
-    pub aside-wide : width (asideArguments b (partFrom part 0)) ≡ countOf (getD part 0 0) - b
-    aside-wide = width-aside b (partFrom part 0) (parted-body part parted some-words .within .formed) ∙ aside-many
+    pub aside-width : width (asideArguments b (partFrom part 0)) ≡ countOf (getD part 0 0) - b
+    aside-width = width-aside b (partFrom part 0) (parted-body part parted some-words .within .formed) ∙ aside-many
 
     pub aside-none : countOf (getD part 0 0) ≤ b → asideArguments b (partFrom part 0) ≡ nothing
-    aside-none l = none-wide (asideArguments b (partFrom part 0)) (omega (arith, l, aside-wide))
+    aside-none l = none-wide (asideArguments b (partFrom part 0)) (omega (arith, l, aside-width))
 
     module _ (l : b ≤ countOf (getD part 0 0)) where
       stand : (childAt part 1 b + length (words (asideArguments b (partFrom part 0))) ≡ partEnd part) × (p : PartHere part) × (drop (childAt part 1 b) part ≡ words (asideArguments b (partFrom part 0)) ++ p .after)

@@ -9,7 +9,7 @@ use native.Mathlib.Omega.{arith}
 use lib.ListN.{length, getD}
 use Rattle.term.specs.declared.check.Checked.the-variants.{Good}
 use Rattle.term.specs.declared.answer.Answer.{Answer}
-use Rattle.term.specs.declared.answer.Answer.the-variants.{Done, BudgetUsed, Over}
+use Rattle.term.specs.declared.answer.Answer.the-variants.{Done, BudgetUsed, Over, CannotTake}
 use Rattle.term.specs.Word.{pick}
 use Rattle.term.specs.Row.{Row, words}
 use Rattle.term.specs.Check.{IsTerm, termLimits}
@@ -24,11 +24,11 @@ use Rattle.tree.specs.Compile.{bookTree}
 use Rattle.tree.proofs.Laws.{Lies, varsIn}
 use Rattle.walk.specs.Walk.{NoneFits, RuleFits, DamagedAt, walk, bookFits}
 use Rattle.walk.proofs.Laws.{walkedOf, begun-with}
-use Rattle.steps.specs.Rewrite.{rewritten, walkedRoot, rewriteRoot}
+use Rattle.steps.specs.Rewrite.{manyAside, rewritten, walkedRoot, rewriteRoot}
 use Rattle.steps.specs.Offset.{partAt, spliced}
-use Rattle.steps.specs.Step.{Sought, Nowhere, FoundAt, Broken, lowestOffset, Stepped, Rests, Becomes, Refused, wholeWithin, stepFound, step}
+use Rattle.steps.specs.Step.{Sought, Nowhere, FoundAt, Broken, lowestOffset, Stepped, Rests, Becomes, Refused, wholeWithin, stepTaken, stepFound, step}
 use Rattle.steps.specs.Simplify.{Run, Stopped, Ended, simplifyBy, simplify}
-use Rattle.steps.proofs.Steps.{SeekIs, lowest-offset-is, part-term, step-term, StepsTo, EndsAs, rests, used, StopsAs, broken, over, RunIs, run-is, steps-term}
+use Rattle.steps.proofs.Steps.{SeekIs, lowest-offset-is, part-term, step-term, StepsTo, EndsAs, rests, used, StopsAs, broken, cannot, over, RunIs, run-is, steps-term}
 
 module _ (book : List ℕ) where
   -- the lowest of the book's rules for which some bodies, of all there could be, turn its left side into the tree at an offset, with these bodies; none only where there is none
@@ -41,12 +41,14 @@ module _ (book : List ℕ) where
   FirstFit t (FoundAt at f) = (at < length (words t)) × FitsAt t at (some f) × ((k : ℕ) → k < at → FitsAt t k none)
   FirstFit t (Broken address) = ⊥
 
-  -- one step: the part there becomes what the rule writes, and the whole is within the limits
+  -- one step: the part there becomes what the rule makes of it, and the whole is within the limits
   pub record OneStep (t u : Row) : Type 0 where
     pub at : ℕ
     pub fitting : Fitting
     pub first : FirstFit t (FoundAt at fitting)
-    pub is : u ≡ spliced t at (rewritten book fitting)
+    pub new : Row
+    pub writes : rewritten book (partAt t at) fitting ≡ some new
+    pub is : u ≡ spliced t at new
     pub within : withinLimits u ≡ true
 
   unfoldable pub Reaches : ℕ → Row → Row → Type 0
@@ -65,10 +67,26 @@ module _ (book : List ℕ) where
     pub at : ℕ
     pub fitting : Fitting
     pub first : FirstFit v (FoundAt at fitting)
-    pub large : withinLimits (spliced v at (rewritten book fitting)) ≡ false
+    pub new : Row
+    pub writes : rewritten book (partAt v at) fitting ≡ some new
+    pub large : withinLimits (spliced v at new) ≡ false
+
+  -- what the next step writes cannot take the arguments set aside, which the answer counts
+  pub record TooMany (budget n : ℕ) (v : Row) (a : Answer) : Type 0 where
+    pub at : ℕ
+    pub fitting : Fitting
+    pub answer : a ≡ CannotTake (manyAside book (partAt v at) fitting)
+    pub left : n < budget
+    pub first : FirstFit v (FoundAt at fitting)
+    pub refuses : rewritten book (partAt v at) fitting ≡ none
+
+  -- why no step is made, though the budget has one
+  pub data Barred (budget n : ℕ) (v : Row) (a : Answer) : Type 0 where
+    large : TooLarge budget n v a → Barred budget n v a
+    many : TooMany budget n v a → Barred budget n v a
 
   abbrev pub Simplified : ℕ → Row → Run → Type 0
-  Simplified budget t (Stopped n a) = (v : Row) × Reaches n t v × (n ≤ budget) × TooLarge budget n v a
+  Simplified budget t (Stopped n a) = (v : Row) × Reaches n t v × (n ≤ budget) × Barred budget n v a
   Simplified budget t (Ended n a v) = Reaches n t v × (n ≤ budget) × Rested budget n v a
 
 -- ---- a table that begins with an accepted book's tree, whatever follows it
@@ -123,16 +141,23 @@ module _ (book : List ℕ) (accepted : checkBook book ≡ Good) (table : List �
     abbrev StepO : Stepped → Type 0
     StepO Rests = FirstFit book t Nowhere
     StepO (Becomes u) = OneStep book t u
-    StepO (Refused a) = a ≡ Over
+    StepO (Refused a) = Barred book 1 0 t a
 
     step-o : (s : Sought) → lowestOffset book table t ≡ s → StepO (stepFound book t s)
     unfolding wholeWithin
     step-o Nowhere e = compiled-found Nowhere e
-    step-o (FoundAt at f) e = go (withinLimits (spliced t at (rewritten book f))) refl
+    step-o (FoundAt at f) e = taken (rewritten book (partAt t at) f) refl
       where
-        go : (b : Bool) → withinLimits (spliced t at (rewritten book f)) ≡ b → StepO (pick b (Becomes (spliced t at (rewritten book f))) (Refused Over))
-        go true q = record { at = at; fitting = f; first = compiled-found (FoundAt at f) e; is = refl; within = q }
-        go false q = refl
+        first : FirstFit book t (FoundAt at f)
+        first = compiled-found (FoundAt at f) e
+
+        go : (u : Row) → rewritten book (partAt t at) f ≡ some u → (b : Bool) → withinLimits (spliced t at u) ≡ b → StepO (pick b (Becomes (spliced t at u)) (Refused Over))
+        go u w true q = record { at = at; fitting = f; first = first; new = u; writes = w; is = refl; within = q }
+        go u w false q = large (record { answer = refl; left = omega arith; at = at; fitting = f; first = first; new = u; writes = w; large = q })
+
+        taken : (o : Option Row) → rewritten book (partAt t at) f ≡ o → StepO (stepTaken t at (manyAside book (partAt t at) f) o)
+        taken none w = many (record { at = at; fitting = f; answer = refl; left = omega arith; first = first; refuses = w })
+        taken (some u) w = go u w (withinLimits (spliced t at u)) refl
     step-o (Broken address) e = absurd (compiled-found (Broken address) e)
 
     pub compiled-step : StepO (step book table t)
@@ -150,18 +175,19 @@ module _ (book : List ℕ) (accepted : checkBook book ≡ Good) (table : List �
   rested budget n v a i (rests e q) = normal e (rw q at (compiled-offset v i))
   rested budget n v a i (used e m at f q) = unfinished e m at f (rw q at (compiled-offset v i))
 
-  too-large : (budget n : ℕ) (v : Row) (a : Answer) → IsBody v → StopsAs book table budget n v a → TooLarge book budget n v a
-  too-large budget n v a i (broken address e q) = absurd (rw q at (compiled-offset v i))
-  too-large budget n v a i (over e m at f q w) = record { answer = e; left = m; at = at; fitting = f; first = rw q at (compiled-offset v i); large = w }
+  barred : (budget n : ℕ) (v : Row) (a : Answer) → IsBody v → StopsAs book table budget n v a → Barred book budget n v a
+  barred budget n v a i (broken address e q) = absurd (rw q at (compiled-offset v i))
+  barred budget n v a i (cannot at f e m q w) = many (record { at = at; fitting = f; answer = e; left = m; first = rw q at (compiled-offset v i); refuses = w })
+  barred budget n v a i (over e m at f q u w z) = large (record { answer = e; left = m; at = at; fitting = f; first = rw q at (compiled-offset v i); new = u; writes = w; large = z })
 
   run-of : (budget : ℕ) (t : Row) → IsBody t → (r : Run) → RunIs book table budget t r → Simplified book budget t r
   run-of budget t i (Stopped n a) r =
-      (r .0, reaches n t (r .0) i (r .1), r .2, too-large budget n (r .0) a (steps-term book table accepted n t (r .0) i (r .1)) (r .3))
+      (r .0, reaches n t (r .0) i (r .1), r .2, barred budget n (r .0) a (steps-term book table accepted n t (r .0) i (r .1)) (r .3))
   run-of budget t i (Ended n a v) r =
       (reaches n t v i (r .0), r .1, rested budget n v a (steps-term book table accepted n t v i (r .0)) (r .2))
 
   module _ (ws : List ℕ) (term : IsTerm ws) where
-    -- simplifying a term with the compiled tree: as many steps as it says, each at the lowest offset at which some rule fits, to a term in which none fits, or as far as the budget or the limits go
+    -- simplifying a term with the compiled tree: as many steps as it says, each at the lowest offset at which some rule fits, to a term in which none fits, or as far as the budget, the arguments set aside or the limits go
     pub compiled-simplify : (budget : ℕ) → Simplified book budget (term .tree) (simplify book table budget ws)
     unfolding simplify
     compiled-simplify budget =
@@ -169,6 +195,6 @@ module _ (book : List ℕ) (accepted : checkBook book ≡ Good) (table : List �
         (run-of budget (term .tree) (term-is-body ws term) (simplifyBy book table budget (term .tree)) (run-is book table budget (term .tree)))
 
     -- rewriting at the root with the compiled tree: by the lowest rule that fits
-    pub compiled-root : rewriteRoot book table ws ≡ walkedRoot book (walkedOf (varsIn book) (lowest book 0 (getD book 0 0) (term .tree)))
+    pub compiled-root : rewriteRoot book table ws ≡ walkedRoot book (term .tree) (walkedOf (varsIn book) (lowest book 0 (getD book 0 0) (term .tree)))
     unfolding rewriteRoot
-    compiled-root = rw (good-accepted book accepted, tree-good termLimits ws term, tree-of termLimits ws term) (ap (walkedRoot book) (looks (term .tree) (term-is-body ws term)))
+    compiled-root = rw (good-accepted book accepted, tree-good termLimits ws term, tree-of termLimits ws term) (ap (walkedRoot book (term .tree)) (looks (term .tree) (term-is-body ws term)))

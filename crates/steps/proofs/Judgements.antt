@@ -1,36 +1,51 @@
--- Rewriting at the root and simplifying, judgement by judgement: the book, the term, and then the walk or the run. Each is one line of a definition; that a damaged node stops a run is one induction over the steps before it.
-use mathlib.Core.Path.{_≡_, refl, ap, _∙_}
+-- Rewriting at the root and simplifying, judgement by judgement: the book, the term, and then the walk or the run. Each is one line of a definition; that a damaged node or a refused step stops a run is one induction over the steps before it.
+use mathlib.Core.Path.{_≡_, refl, sym, ap, _∙_}
 use mathlib.Core.Bool.{Bool, true, false}
 use mathlib.Core.List.{List}
-use mathlib.Core.Option.{some}
-use Prim.Native.Nat.{ℕ, zero, suc, _≤_}
+use mathlib.Core.Option.{Option, none, some}
+use Prim.Native.Nat.{ℕ, zero, suc, _≤_, _<_}
 use native.Mathlib.Omega.{arith}
 use lib.Dec.{leb}
 use lib.ListN.{length, replicate}
 use Rattle.term.specs.declared.check.Checked.the-variants.{Good, Bad}
 use Rattle.term.specs.declared.answer.Answer.{Answer}
-use Rattle.term.specs.declared.answer.Answer.the-variants.{BadTerm, BadBook, Short, Damaged, Over}
+use Rattle.term.specs.declared.answer.Answer.the-variants.{BudgetUsed, BadTerm, BadBook, Short, Damaged, Over, CannotTake}
 use Rattle.term.specs.Word.{pick}
-use Rattle.term.specs.Row.{Row, words}
+use Rattle.term.specs.Row.{Row, nothing, words, Formed}
 use Rattle.term.specs.Check.{check, termLimits}
 use Rattle.term.specs.Part.{padded}
 use Rattle.book.specs.Book.{Rule, checkBook, ruleAt}
 use Rattle.book.proofs.Laws.{good-accepted, bad-refused}
-use Rattle.fit.specs.Match.{treeOf}
+use Rattle.fit.specs.Match.{treeOf, leftIn}
+use Rattle.fit.specs.Front.{rootArguments, aside, asideArguments}
 use Rattle.fit.specs.Lowest.{Fitting}
 use Rattle.fit.specs.Build.{withinLimits, refused}
+use Rattle.fit.proofs.Laws.{width-aside}
 use Rattle.walk.specs.Walk.{walk, bookFits}
 use Rattle.steps.specs.Right.{write}
-use Rattle.steps.specs.Rewrite.{rewritten, walkedRoot, rewriteRoot}
-use Rattle.steps.specs.Offset.{spliced}
-use Rattle.steps.specs.Step.{Sought, Nowhere, FoundAt, Broken, lowestOffset, Stepped, Rests, Becomes, Refused, wholeWithin, stepFound, step}
+use Rattle.steps.specs.Arguments.{withAside}
+use Rattle.steps.specs.Rewrite.{manyAside, rewritten, walkedRoot, rewriteRoot}
+use Rattle.steps.specs.Offset.{partAt, spliced}
+use Rattle.steps.specs.Step.{Sought, Nowhere, FoundAt, Broken, lowestOffset, Stepped, Rests, Becomes, Refused, wholeWithin, stepTaken, stepFound, step}
 use Rattle.steps.specs.Simplify.{Stopped, Ended, oneMore, budgetUsed, afterStep, simplifyBy, simplify, simplifyAnswer, simplifyWords, simplifySteps}
+use Rattle.steps.proofs.Replaced.{none-wide}
+use Rattle.steps.proofs.Arguments.{nothing-aside}
 use Rattle.steps.proofs.Steps.{StepsTo}
 
--- what a rule of the book writes
-pub rule-writes-right : (book : List ℕ) (f : Fitting) (rule : Rule) → ruleAt book (f .number) ≡ some rule → rewritten book f ≡ write (f .bodies) 0 (treeOf (rule .right))
-unfolding rewritten
-rule-writes-right book f rule e = rw e
+-- what a rule of the book makes of a term: its right side with the arguments set aside, and with nothing set aside its right side alone
+module _ (book : List ℕ) (t : Row) (f : Fitting) (rule : Rule) (e : ruleAt book (f .number) ≡ some rule) where
+  pub rule-writes-right : rewritten book t f ≡ withAside (write (f .bodies) 0 (treeOf (rule .right))) (asideArguments (rootArguments (leftIn rule)) t)
+  unfolding rewritten
+  rule-writes-right = rw e
+
+  pub rule-aside : manyAside book t f ≡ aside (rootArguments (leftIn rule)) t
+  rule-aside = rw e
+
+  pub none-aside-writes : Formed t → manyAside book t f ≡ 0 → rewritten book t f ≡ some (write (f .bodies) 0 (treeOf (rule .right)))
+  none-aside-writes w z =
+      let n : asideArguments (rootArguments (leftIn rule)) t ≡ nothing =
+      none-wide (asideArguments (rootArguments (leftIn rule)) t) (width-aside (rootArguments (leftIn rule)) t w ∙ sym rule-aside ∙ z) in
+      rule-writes-right ∙ ap (withAside (write (f .bodies) 0 (treeOf (rule .right)))) n ∙ nothing-aside (write (f .bodies) 0 (treeOf (rule .right)))
 
 -- ---- rewriting at the root
 module _ (book table ws : List ℕ) where
@@ -42,7 +57,7 @@ module _ (book table ws : List ℕ) where
   unfolding rewriteRoot
   rewrite-bad-term g at e = rw (good-accepted book g, e)
 
-  pub rewrite-walked : checkBook book ≡ Good → check termLimits ws ≡ Good → rewriteRoot book table ws ≡ walkedRoot book (walk (bookFits book) table (treeOf ws))
+  pub rewrite-walked : checkBook book ≡ Good → check termLimits ws ≡ Good → rewriteRoot book table ws ≡ walkedRoot book (treeOf ws) (walk (bookFits book) table (treeOf ws))
   unfolding rewriteRoot
   rewrite-walked g e = rw (good-accepted book g, e)
 
@@ -92,26 +107,42 @@ module _ (book table : List ℕ) where
   module _ (t : Row) where
     abbrev MadeBy : Stepped → Type 0
     MadeBy Rests = Unit {0}
-    MadeBy (Becomes u) = (at : ℕ) × (f : Fitting) × (lowestOffset book table t ≡ FoundAt at f) × (u ≡ spliced t at (rewritten book f)) × (withinLimits u ≡ true)
+    MadeBy (Becomes u) = (at : ℕ) × (f : Fitting) × (lowestOffset book table t ≡ FoundAt at f) × (new : Row) × (rewritten book (partAt t at) f ≡ some new) × (u ≡ spliced t at new) × (withinLimits u ≡ true)
     MadeBy (Refused a) = Unit {0}
 
     made-by : (s : Sought) → lowestOffset book table t ≡ s → MadeBy (stepFound book t s)
     unfolding wholeWithin
     made-by Nowhere e = tt
-    made-by (FoundAt at f) e = go (withinLimits (spliced t at (rewritten book f))) refl
+    made-by (FoundAt at f) e = taken (rewritten book (partAt t at) f) refl
       where
-        go : (b : Bool) → withinLimits (spliced t at (rewritten book f)) ≡ b → MadeBy (pick b (Becomes (spliced t at (rewritten book f))) (Refused Over))
-        go true q = (at, f, e, refl, q)
-        go false q = tt
+        go : (u : Row) → rewritten book (partAt t at) f ≡ some u → (b : Bool) → withinLimits (spliced t at u) ≡ b → MadeBy (pick b (Becomes (spliced t at u)) (Refused Over))
+        go u w true q = (at, f, e, u, w, refl, q)
+        go u w false q = tt
+
+        taken : (o : Option Row) → rewritten book (partAt t at) f ≡ o → MadeBy (stepTaken t at (manyAside book (partAt t at) f) o)
+        taken none w = tt
+        taken (some u) w = go u w (withinLimits (spliced t at u)) refl
     made-by (Broken address) e = tt
 
-    pub step-made : (u : Row) → step book table t ≡ Becomes u → (at : ℕ) × (f : Fitting) × (lowestOffset book table t ≡ FoundAt at f) × (u ≡ spliced t at (rewritten book f)) × (withinLimits u ≡ true)
+    pub step-made : (u : Row) → step book table t ≡ Becomes u
+        → (at : ℕ) × (f : Fitting) × (lowestOffset book table t ≡ FoundAt at f) × (new : Row) × (rewritten book (partAt t at) f ≡ some new) × (u ≡ spliced t at new) × (withinLimits u ≡ true)
     unfolding step
     step-made u e = rw e at (made-by (lowestOffset book table t) refl)
 
-    pub makes-step : (at : ℕ) (f : Fitting) → lowestOffset book table t ≡ FoundAt at f → withinLimits (spliced t at (rewritten book f)) ≡ true → step book table t ≡ Becomes (spliced t at (rewritten book f))
+    pub makes-step : (at : ℕ) (f : Fitting) → lowestOffset book table t ≡ FoundAt at f → (new : Row) → rewritten book (partAt t at) f ≡ some new → withinLimits (spliced t at new) ≡ true
+        → step book table t ≡ Becomes (spliced t at new)
     unfolding step wholeWithin
-    makes-step at f e w = rw (e, w)
+    makes-step at f e new q w = rw (e, q, w)
+
+    -- refused where that cannot take the arguments set aside, and then where it is over the limits
+    pub cannot-step : (at : ℕ) (f : Fitting) → lowestOffset book table t ≡ FoundAt at f → rewritten book (partAt t at) f ≡ none → step book table t ≡ Refused (CannotTake (manyAside book (partAt t at) f))
+    unfolding step
+    cannot-step at f e q = rw (e, q)
+
+    pub over-step : (at : ℕ) (f : Fitting) → lowestOffset book table t ≡ FoundAt at f → (new : Row) → rewritten book (partAt t at) f ≡ some new → withinLimits (spliced t at new) ≡ false
+        → step book table t ≡ Refused Over
+    unfolding step wholeWithin
+    over-step at f e new q w = rw (e, q, w)
 
 -- ---- a damaged node stops a run, after the steps before it
 module _ (book table : List ℕ) (address : ℕ) where
@@ -126,3 +157,18 @@ module _ (book table : List ℕ) (address : ℕ) where
   damage-stops (suc n) zero t v s l e = absurd (omega arith)
   damage-stops (suc n) (suc budget) t v s l e =
       ap (afterStep (simplifyBy book table budget) t) (s .1) ∙ ap oneMore (damage-stops n budget (s .0) v (s .2) (omega arith) e)
+
+-- ---- a step that is refused stops a run, after the steps before it; where the budget is used it is not looked at
+module _ (book table : List ℕ) where
+  pub refusal-stops : (a : Answer) (n budget : ℕ) (t v : Row) → StepsTo book table n t v → n < budget → step book table v ≡ Refused a → simplifyBy book table budget t ≡ Stopped n a
+  unfolding StepsTo simplifyBy
+  refusal-stops a zero zero t v s l e = absurd (omega arith)
+  refusal-stops a zero (suc budget) t v s l e = ap (afterStep (simplifyBy book table budget) t) (ap (step book table) s ∙ e)
+  refusal-stops a (suc n) zero t v s l e = absurd (omega arith)
+  refusal-stops a (suc n) (suc budget) t v s l e =
+      ap (afterStep (simplifyBy book table budget) t) (s .1) ∙ ap oneMore (refusal-stops a n budget (s .0) v (s .2) (omega arith) e)
+
+  pub used-first : (at : ℕ) (f : Fitting) (n : ℕ) (t v : Row) → StepsTo book table n t v → lowestOffset book table v ≡ FoundAt at f → simplifyBy book table n t ≡ Ended n BudgetUsed v
+  unfolding StepsTo simplifyBy
+  used-first at f zero t v s e = ap (budgetUsed t) (ap (lowestOffset book table) s ∙ e) ∙ ap (Ended 0 BudgetUsed) s
+  used-first at f (suc n) t v s e = ap (afterStep (simplifyBy book table n) t) (s .1) ∙ ap oneMore (used-first at f n (s .0) v (s .2) e)

@@ -18,22 +18,22 @@ pub use Rattle.steps.proofs.Children.{right-formed, right-tree, ChildAt
 pub use Rattle.steps.proofs.RightRows.{parametersOf, right-row, accepted-right}
 pub use Rattle.steps.proofs.Shaped.{Shaped, formed-shaped, shaped-formed, width-written, few-written, shaped-written, limits-within}
 -- The written right side with the arguments set aside at its end: where it takes them, and what it then is.
-pub use Rattle.steps.proofs.Arguments.{TakesAs, takes-as, nothing-aside, takes-aside, refuses-aside, refused-aside, Taken, taken, aside-taken, aside-wide, aside-formed, aside-shaped, aside-few, aside-limits}
+pub use Rattle.steps.proofs.Arguments.{TakesAs, takes-as, nothing-aside, takes-aside, refuses-aside, refused-aside, Taken, taken, aside-taken, aside-wide, aside-formed, aside-shaped, aside-few, aside-limits, AsideIs, aside-is}
 -- Offsets: the part at an offset is read there, and replacing it replaces its words and no others.
 pub use Rattle.steps.proofs.Offsets.{part-words, spliced-words, PartOf, part-of, part-read, part-stands, part-end, Spliced, splice-keeps}
 -- The limits of the whole, from the part that is replaced, or by checking its words.
 pub use Rattle.steps.proofs.Limits.{levelsAbove, levels-first, levels-below, levels-beside, Nests, splice-nests, part-within, within-part, check-within, within-check}
 -- Every step is at the lowest offset where the walk finds a rule and leaves a term; simplifying counts its steps and ends as it says.
-pub use Rattle.steps.proofs.Steps.{FirstAt, SeekIs, seek-is, lowest-offset-is, part-term, Wrote, found-writes, step-term, StepsTo, EndsAs, rests, used, StopsAs, broken, over, RunIs, run-is, steps-term}
+pub use Rattle.steps.proofs.Steps.{FirstAt, SeekIs, seek-is, lowest-offset-is, part-term, Wrote, found-writes, step-term, StepsTo, EndsAs, rests, used, StopsAs, broken, cannot, over, RunIs, run-is, steps-term}
 -- Demand 3 seen from here: with a compiled tree, the lowest offset at which some rule fits at all, and the lowest rule that fits there.
-pub use Rattle.steps.proofs.Demand.{FitsAt, FirstFit, OneStep, Reaches, Rested, normal, unfinished, TooLarge, Simplified, compiled-offset, compiled-step, compiled-simplify, compiled-root}
+pub use Rattle.steps.proofs.Demand.{FitsAt, FirstFit, OneStep, Reaches, Rested, normal, unfinished, TooLarge, TooMany, Barred, large, many, Simplified, compiled-offset, compiled-step, compiled-simplify, compiled-root}
 -- What is simplified is a term; simplifying it again makes no step; a run that its budget cut short goes on from the term so far.
 pub use Rattle.steps.proofs.Machine.{simplified-still, done-still, stepsMore, goes-on, result-term, simplify-again, simplify-on}
 -- What is said without trees settles it: a step has one outcome, and a run one end.
-pub use Rattle.steps.proofs.Settled.{write-same, same-written, same-spliced, one-outcome, one-run}
+pub use Rattle.steps.proofs.Settled.{write-same, same-written, same-aside, same-made, same-many, same-spliced, one-outcome, one-run}
 -- What rewriting at the root and simplifying give, as one record, and answer, steps and lent words one by one: each says the other.
 pub use Rattle.steps.proofs.Came.{rewrite-root-came, came-rewrite-root, simplify-came, came-simplify}
--- Rewriting at the root and simplifying, judgement by judgement; a damaged node stops a run.
-pub use Rattle.steps.proofs.Judgements.{rule-writes-right, rewrite-bad-book, rewrite-bad-term, rewrite-walked, simplify-bad-book, simplify-bad-term, simplify-runs, stopped-run, ended-run, steps-none, steps-more, none-steps, more-steps, step-made, makes-step, damage-stops}
+-- Rewriting at the root and simplifying, judgement by judgement; a damaged node stops a run, and so does a step that is refused, but where the budget is used.
+pub use Rattle.steps.proofs.Judgements.{rule-writes-right, rule-aside, none-aside-writes, rewrite-bad-book, rewrite-bad-term, rewrite-walked, simplify-bad-book, simplify-bad-term, simplify-runs, stopped-run, ended-run, steps-none, steps-more, none-steps, more-steps, step-made, makes-step, cannot-step, over-step, damage-stops, refusal-stops, used-first}
 -- What simplifying answers and leaves in 4,096 words or more, by how it ended.
 pub use Rattle.steps.proofs.RunWords.{RunGives, simplify-gives}

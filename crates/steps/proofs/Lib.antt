@@ -16,6 +16,7 @@ mod BodyTrees
 mod WholeRight
 mod WrittenRoots
 mod AsideWords
+mod AsideWrites
 mod Offsets
 mod Limits
 mod Steps

@@ -2,6 +2,7 @@
 use mathlib.Core.Path.{_≡_, refl, sym, ap, _∙_}
 use mathlib.Core.Bool.{Bool, true, false}
 use mathlib.Core.List.{List, _++_}
+use mathlib.Core.Option.{Option, none, some}
 use Prim.Native.Nat.{ℕ, _+_, _≤_, _<_}
 use native.Mathlib.Omega.{arith}
 use lib.ListN.{length, take, drop, length-append}
@@ -19,14 +20,14 @@ use Rattle.fit.specs.Match.{treeOf}
 use Rattle.fit.specs.Build.{withinLimits}
 use Rattle.fit.proofs.Laws.{within-limits}
 use Rattle.walk.specs.Walk.{walk, bookFits}
-use Rattle.steps.specs.Rewrite.{rewritten}
+use Rattle.steps.specs.Rewrite.{manyAside, rewritten}
 use Rattle.steps.specs.Offset.{partAt, spliced}
 use Rattle.steps.specs.told.Area.{splicedWords, SpliceTold}
-use Rattle.steps.specs.Step.{Sought, Nowhere, FoundAt, Broken, lowestOffset, Rests, Refused, wholeWithin, stepFound, step}
+use Rattle.steps.specs.Step.{Sought, Nowhere, FoundAt, Broken, lowestOffset, Rests, Refused, wholeWithin, stepTaken, stepFound, step}
 use Rattle.steps.specs.declared.simplify.Lowest.the-variants as lowest
 use Rattle.steps.specs.declared.simplify.Moved.{Moved}
 use Rattle.steps.specs.declared.simplify.Moved.the-variants as moved
-use Rattle.steps.specs.told.Operations.{LowestTold, ReplaceTold, MoveTold}
+use Rattle.steps.specs.told.Operations.{FoundTaken, LowestTold, ReplaceTold, MoveTold}
 use Rattle.steps.proofs.Shaped.{formed-shaped, limits-within}
 use Rattle.steps.proofs.Offsets.{spliced-words, part-end, splice-keeps}
 use Rattle.steps.proofs.Limits.{splice-nests, within-part, check-within, within-check}
@@ -63,18 +64,15 @@ module _ (book : List ℕ) (accepted : checkBook book ≡ Good) (table ws : List
   abbrev sought : Sought
   sought = lowestOffset book table (treeOf ws)
 
-  module _ (at : ℕ) (f : Fitting) (k : SeekIs (walk (bookFits book) table) (treeOf ws) 0 (length (words (treeOf ws))) (FoundAt at f)) where
-    abbrev u : Row
-    u = rewritten book f
-
+  module _ (at : ℕ) (f : Fitting) (k : SeekIs (walk (bookFits book) table) (treeOf ws) 0 (length (words (treeOf ws))) (FoundAt at f)) (u : Row) (made : rewritten book (partAt (treeOf ws) at) f ≡ some u) where
     abbrev v : Row
-    v = spliced (treeOf ws) at (rewritten book f)
+    v = spliced (treeOf ws) at u
 
     inside : at < length (words t)
     inside = k .1 .inside
 
     writes : Wrote book accepted table u
-    writes = found-writes book accepted table (partAt t at) (part-term t (tree-body ws i) at inside) f (k .0) (k .1 .here)
+    writes = found-writes book accepted table (partAt t at) (part-term t (tree-body ws i) at inside) f (k .0) (k .1 .here) u made
 
     words-are : splicedWords ws at (words u) ≡ words v
     unfolding splicedWords
@@ -128,56 +126,103 @@ module _ (book : List ℕ) (accepted : checkBook book ≡ Good) (table ws : List
         (new-over (q .1), q .0)
 
   -- ---- a step, by what was sought
+  abbrev Sees : Sought → Type 0
+  Sees s = SeekIs (walk (bookFits book) table) (treeOf ws) 0 (length (words (treeOf ws))) s
+
+  abbrev made-of : ℕ → Fitting → Option Row
+  made-of at f = rewritten book (partAt (treeOf ws) at) f
+
+  abbrev many : ℕ → Fitting → ℕ
+  many at f = manyAside book (partAt (treeOf ws) at) f
+
   module _ (new before area : List ℕ) where
-    pub move-rests : LowestTold book (lowestOffset book table (treeOf ws)) new lowest.Nowhere → area ≡ before → MoveTold (step book table (treeOf ws)) before area moved.Rests
+    pub move-rests : LowestTold book (treeOf ws) (lowestOffset book table (treeOf ws)) new lowest.Nowhere → area ≡ before → MoveTold (step book table (treeOf ws)) before area moved.Rests
     unfolding step LowestTold MoveTold
     move-rests l e = go sought l
       where
-        go : (s : Sought) → LowestTold book s new lowest.Nowhere → MoveTold (stepFound book t s) before area moved.Rests
+        taken : (at n : ℕ) (o : Option Row) → FoundTaken at n o new lowest.Nowhere → ⊥
+        taken at n none l = let z : lowest.Nowhere ≡ lowest.CannotTake n = l in never (cc)
+        taken at n (some u) l = l
+
+        go : (s : Sought) → LowestTold book (treeOf ws) s new lowest.Nowhere → MoveTold (stepFound book t s) before area moved.Rests
         go Nowhere l = (refl, e)
-        go (FoundAt at f) l = absurd l
+        go (FoundAt at f) l = absurd (taken at (many at f) (made-of at f) l)
         go (Broken address) l = let z : lowest.Nowhere ≡ lowest.Broken address = l in never (cc)
 
-    pub move-broken : (address : ℕ) → LowestTold book (lowestOffset book table (treeOf ws)) new (lowest.Broken address) → MoveTold (step book table (treeOf ws)) before area (moved.Refused (answer.Damaged address))
+    pub move-broken : (address : ℕ) → LowestTold book (treeOf ws) (lowestOffset book table (treeOf ws)) new (lowest.Broken address) → MoveTold (step book table (treeOf ws)) before area (moved.Refused (answer.Damaged address))
     unfolding step LowestTold MoveTold
     move-broken address l = go sought l
       where
-        go : (s : Sought) → LowestTold book s new (lowest.Broken address) → MoveTold (stepFound book t s) before area (moved.Refused (answer.Damaged address))
+        taken : (at n : ℕ) (o : Option Row) → FoundTaken at n o new (lowest.Broken address) → ⊥
+        taken at n none l = let z : lowest.Broken address ≡ lowest.CannotTake n = l in never (cc)
+        taken at n (some u) l = l
+
+        go : (s : Sought) → LowestTold book (treeOf ws) s new (lowest.Broken address) → MoveTold (stepFound book t s) before area (moved.Refused (answer.Damaged address))
         go Nowhere l = let z : lowest.Broken address ≡ lowest.Nowhere = l in never (cc)
-        go (FoundAt at f) l = absurd l
+        go (FoundAt at f) l = absurd (taken at (many at f) (made-of at f) l)
         go (Broken a) l = let z : lowest.Broken address ≡ lowest.Broken a = l in let y : address ≡ a = cc in ap (λ (n : ℕ). moved.Refused (answer.Damaged n)) y
 
-    pub move-over : LowestTold book (lowestOffset book table (treeOf ws)) new lowest.Over → MoveTold (step book table (treeOf ws)) before area (moved.Refused answer.Over)
+    pub move-cannot : (n : ℕ) → LowestTold book (treeOf ws) (lowestOffset book table (treeOf ws)) new (lowest.CannotTake n) → MoveTold (step book table (treeOf ws)) before area (moved.Refused (answer.CannotTake n))
+    unfolding step LowestTold MoveTold
+    move-cannot n l = go sought l
+      where
+        taken : (at m : ℕ) (o : Option Row) → FoundTaken at m o new (lowest.CannotTake n) → MoveTold (stepTaken t at m o) before area (moved.Refused (answer.CannotTake n))
+        taken at m none l = let z : lowest.CannotTake n ≡ lowest.CannotTake m = l in let y : n ≡ m = cc in ap (λ (k : ℕ). moved.Refused (answer.CannotTake k)) y
+        taken at m (some u) l = absurd l
+
+        go : (s : Sought) → LowestTold book (treeOf ws) s new (lowest.CannotTake n) → MoveTold (stepFound book t s) before area (moved.Refused (answer.CannotTake n))
+        go Nowhere l = let z : lowest.CannotTake n ≡ lowest.Nowhere = l in never (cc)
+        go (FoundAt at f) l = taken at (many at f) (made-of at f) l
+        go (Broken a) l = let z : lowest.CannotTake n ≡ lowest.Broken a = l in never (cc)
+
+    pub move-over : LowestTold book (treeOf ws) (lowestOffset book table (treeOf ws)) new lowest.Over → MoveTold (step book table (treeOf ws)) before area (moved.Refused answer.Over)
     unfolding step LowestTold MoveTold wholeWithin
     move-over l = go sought (lowest-offset-is book table t) l
       where
-        go : (s : Sought) → SeekIs (walk (bookFits book) table) t 0 (length (words t)) s → LowestTold book s new lowest.Over → MoveTold (stepFound book t s) before area (moved.Refused answer.Over)
+        taken : (at : ℕ) (f : Fitting) → Sees (FoundAt at f) → (o : Option Row) → made-of at f ≡ o → FoundTaken at (many at f) o new lowest.Over
+            → MoveTold (stepTaken t at (many at f) o) before area (moved.Refused answer.Over)
+        taken at f k none q l = let z : lowest.Over ≡ lowest.CannotTake (many at f) = l in never (cc)
+        taken at f k (some u) q l = rw (found-over at f k u q l) refl
+
+        go : (s : Sought) → Sees s → LowestTold book (treeOf ws) s new lowest.Over → MoveTold (stepFound book t s) before area (moved.Refused answer.Over)
         go Nowhere k l = let z : lowest.Over ≡ lowest.Nowhere = l in never (cc)
-        go (FoundAt at f) k l = rw (found-over at f k l) refl
+        go (FoundAt at f) k l = taken at f k (made-of at f) refl l
         go (Broken a) k l = let z : lowest.Over ≡ lowest.Broken a = l in never (cc)
 
-    module _ (at n : ℕ) (l : LowestTold book (lowestOffset book table (treeOf ws)) new (lowest.At at n)) where
+    module _ (at n : ℕ) (l : LowestTold book (treeOf ws) (lowestOffset book table (treeOf ws)) new (lowest.At at n)) where
       pub move-inside : (at < length ws) × (n ≤ 4096)
       unfolding LowestTold
       move-inside = go sought (lowest-offset-is book table t) l
         where
-          go : (s : Sought) → SeekIs (walk (bookFits book) table) t 0 (length (words t)) s → LowestTold book s new (lowest.At at n) → (at < length ws) × (n ≤ 4096)
+          taken : (a : ℕ) (f : Fitting) → Sees (FoundAt a f) → (o : Option Row) → made-of a f ≡ o → FoundTaken a (many a f) o new (lowest.At at n) → (at < length ws) × (n ≤ 4096)
+          taken a f k none q l = let z : lowest.At at n ≡ lowest.CannotTake (many a f) = l in never (cc)
+          taken a f k (some u) q l = (rw (l .0) (found-inside a f k u q), l .3)
+
+          go : (s : Sought) → Sees s → LowestTold book (treeOf ws) s new (lowest.At at n) → (at < length ws) × (n ≤ 4096)
           go Nowhere k l = let z : lowest.At at n ≡ lowest.Nowhere = l in never (cc)
-          go (FoundAt a f) k l = (rw (l .0) (found-inside a f k), l .3)
+          go (FoundAt a f) k l = taken a f k (made-of a f) refl l
           go (Broken a) k l = let z : lowest.At at n ≡ lowest.Broken a = l in never (cc)
 
       pub move-replaced : (r : Moved) → ReplaceTold (splicedWords ws at (take n new)) area r → MoveTold (step book table (treeOf ws)) before area r
       unfolding step LowestTold MoveTold wholeWithin
-      move-replaced r p = go sought (lowest-offset-is book table t) l r p
+      move-replaced r p = go sought (lowest-offset-is book table t) l
         where
-          go : (s : Sought) → SeekIs (walk (bookFits book) table) t 0 (length (words t)) s → LowestTold book s new (lowest.At at n)
-              → (r : Moved) → ReplaceTold (splicedWords ws at (take n new)) area r → MoveTold (stepFound book t s) before area r
-          go Nowhere k l r p = let z : lowest.At at n ≡ lowest.Nowhere = l in never (cc)
-          go (FoundAt a f) k l moved.Rests p = absurd p
-          go (FoundAt a f) k l (moved.To size) p =
-              let q = found-to a f k n new area (l .1) (l .4) size (rw (l .0) at p) in
-              rw (q .0) (size, refl, q .1, q .2)
-          go (FoundAt a f) k l (moved.Refused b) p =
-              let q = found-refused a f k n new area (l .4) b (rw (l .0) at p) in
-              rw (q .0) (ap moved.Refused (q .1))
-          go (Broken a) k l r p = let z : lowest.At at n ≡ lowest.Broken a = l in never (cc)
+          put : (a : ℕ) (f : Fitting) → Sees (FoundAt a f) → (u : Row) → made-of a f ≡ some u → FoundTaken a (many a f) (some u) new (lowest.At at n)
+              → (r : Moved) → ReplaceTold (splicedWords ws at (take n new)) area r → MoveTold (stepTaken t a (many a f) (some u)) before area r
+          put a f k u q l moved.Rests p = absurd p
+          put a f k u q l (moved.To size) p =
+              let x = found-to a f k u q n new area (l .1) (l .4) size (rw (l .0) at p) in
+              rw (x .0) (size, refl, x .1, x .2)
+          put a f k u q l (moved.Refused b) p =
+              let x = found-refused a f k u q n new area (l .4) b (rw (l .0) at p) in
+              rw (x .0) (ap moved.Refused (x .1))
+
+          taken : (a : ℕ) (f : Fitting) → Sees (FoundAt a f) → (o : Option Row) → made-of a f ≡ o → FoundTaken a (many a f) o new (lowest.At at n)
+              → MoveTold (stepTaken t a (many a f) o) before area r
+          taken a f k none q l = let z : lowest.At at n ≡ lowest.CannotTake (many a f) = l in never (cc)
+          taken a f k (some u) q l = put a f k u q l r p
+
+          go : (s : Sought) → Sees s → LowestTold book (treeOf ws) s new (lowest.At at n) → MoveTold (stepFound book t s) before area r
+          go Nowhere k l = let z : lowest.At at n ≡ lowest.Nowhere = l in never (cc)
+          go (FoundAt a f) k l = taken a f k (made-of a f) refl l
+          go (Broken a) k l = let z : lowest.At at n ≡ lowest.Broken a = l in never (cc)

@@ -1,42 +1,41 @@
 -- A part rewritten: the walk with the book gives a rule of the book and its bodies one after the other, so its right side is written from them.
 use mathlib.Core.Path.{_≡_, refl, sym, ap, _∙_}
-use mathlib.Core.Bool.{true, _&&_}
+use mathlib.Core.Bool.{true}
 use mathlib.Core.List.{List, _++_, append-assoc}
 use mathlib.Core.Option.{none, some}
 use Prim.Native.Nat.{ℕ, zero, suc, _+_, _-_, _≤_, _<_}
 use native.Mathlib.Omega.{arith}
-use lib.Dec.{leb}
-use lib.ListN.{length, getD, take, drop, replicate, length-append, length-replicate, replicate-append-replicate}
-use lib.Seq.{length-take-le, take-at, take-append-seam, drop-append-seam, drop-append-add, sets-eq}
-use borrow.Author.Tests.{leb-true}
+use lib.ListN.{length, getD, take, drop, replicate, length-append, length-drop, length-replicate, replicate-append-replicate}
+use lib.Seq.{length-take-le, getD-take, drop-cons, take-append-seam, drop-append-seam, drop-append-add}
 use Rattle.term.specs.declared.check.Checked.the-variants.{Good}
-use Rattle.term.specs.declared.renumber.Passed.{Passed}
-use Rattle.term.specs.declared.renumber.Passed.the-variants as step
-use Rattle.term.specs.Row.{Row, words, nesting}
-use Rattle.term.proofs.Laws.{never, and-left, zero-at}
+use Rattle.term.specs.Word.{symbol, abstraction, variable, pattern, countOf}
+use Rattle.term.specs.Row.{Row, nothing, node, words, nesting, Formed}
+use Rattle.term.proofs.Laws.{never, zero-at, words-node, count-word, formed-node}
 use Rattle.book.specs.declared.book.Sides.{Sides}
 use Rattle.book.specs.declared.book.Found.the-variants as sides
-use Rattle.book.specs.Rule.{sideLimits}
+use Rattle.book.specs.Rule.{rootSymbol, sideLimits}
 use Rattle.book.specs.Book.{Rule, checkBook, ruleAt}
 use Rattle.book.specs.told.Found.{sidesAt}
-use Rattle.book.proofs.Laws.{sides-rule, sides-none, book-rule}
+use Rattle.book.proofs.Laws.{SidesAre, sides-rule, sides-none, book-rule, root-nothing, root-abstraction, root-variable, root-pattern}
+use Rattle.fit.specs.Left.{leftOf}
 use Rattle.fit.specs.Fit.{IsBody}
-use Rattle.fit.specs.Match.{treeOf, bodyList, lengthList}
+use Rattle.fit.specs.Match.{treeOf, leftIn, bodyList, lengthList}
 use Rattle.fit.specs.Lowest.{Fitting}
-use Rattle.fit.specs.Build.{startOf, wordsAt, largest, withinLimits}
-use Rattle.fit.proofs.Laws.{tree-of, within-limits-is, bodies-none, bodies-more, lengths-none, lengths-more, start-none, start-more, words-at-are}
+use Rattle.fit.specs.Front.{rootArguments}
+use Rattle.fit.specs.Build.{startOf, wordsAt}
+use Rattle.fit.proofs.Laws.{tree-of, left-in, left-of-symbol, root-arguments, bodies-none, bodies-more, lengths-none, lengths-more, start-none, start-more, words-at-are}
 use Rattle.walk.specs.declared.with_book.BookMatch.the-variants as found
 use Rattle.walk.specs.Walk.{Walked, RuleFits, bookFits}
 use Rattle.walk.specs.told.State.{partFrom, Parted}
 use Rattle.walk.specs.told.WithBook.{bookWalk, BookWalked}
 use Rattle.walk.proofs.Laws.{FoundSound, walk-sound, fits-rule, parted-body, walked-none, walked-damaged, walked-rule}
-use Rattle.steps.specs.Right.{write}
-use Rattle.steps.specs.Rewrite.{rewritten}
-use Rattle.steps.specs.told.RightWalk.{BodiesStand, WrittenWithin, RightWritten}
+use Rattle.steps.specs.Rewrite.{manyAside, rewritten}
+use Rattle.steps.specs.told.RightWalk.{BodiesStand}
 use Rattle.steps.specs.declared.rules.Rewrote.{Rewrote}
 use Rattle.steps.specs.declared.rules.Rewrote.the-variants as rewrote
-use Rattle.steps.specs.told.Operations.{Cleared, RuleWritten, RowWritten, RewriteTold}
+use Rattle.steps.specs.told.Operations.{Cleared, TakenTold, FrontWritten, RuleWritten, RewriteTold}
 use Rattle.steps.proofs.RightRows.{parametersOf, accepted-right}
+use Rattle.steps.proofs.Shaped.{some-long}
 
 -- ---- bodies one after the other, with zeros after them
 length-next : (b : ℕ → Row) (y n : ℕ) → length (bodyList b y (suc n)) ≡ length (words (b y)) + length (bodyList b (suc y) n)
@@ -141,13 +140,24 @@ pub used-cleared : (w : Walked) (number : ℕ) (bodies lengths : List ℕ) → B
     → (startOf lengths 16 ≤ length bodies) × (replicate (startOf lengths 16) 0 ++ drop (startOf lengths 16) bodies ≡ replicate 65536 0)
 used-cleared w number bodies lengths k long sixteen = let q = walked-rule w number bodies lengths k in used-zeros (q .0 .bodies) (q .1) bodies lengths (q .4) (q .5) long sixteen
 
--- ---- within the limits there is room
-pub within-short : (t : Row) → withinLimits t ≡ true → length (words t) ≤ 4096
-within-short t e = leb-true (length (words t)) 4096 (and-left (leb (length (words t)) 4096) (leb (nesting t) 64 && leb (largest t) 65535) (sym (within-limits-is t) ∙ e))
+-- ---- how many arguments the root of a left side has, by its first word
+root-counts : (t : Row) → Formed t → rootSymbol t ≡ true → rootArguments (leftOf t) ≡ countOf (getD (words t) 0 0)
+root-counts nothing f e = never (let z = root-nothing in cc)
+root-counts (node (symbol i c) kids rest) f e =
+    ap rootArguments (left-of-symbol i c kids rest)
+    ∙ root-arguments (symbol i c) (leftOf kids) (leftOf rest)
+    ∙ sym (ap (λ (ws : List ℕ). countOf (getD ws 0 0)) (words-node (symbol i c) kids rest) ∙ count-word (symbol i c) (formed-node (symbol i c) kids rest f .table))
+root-counts (node abstraction kids rest) f e = never (let z = root-abstraction kids rest in cc)
+root-counts (node (variable i) kids rest) f e = never (let z = root-variable i kids rest in cc)
+root-counts (node (pattern x c) kids rest) f e = never (let z = root-pattern x c kids rest in cc)
 
--- ---- the right side of a rule
-module _ (book : List ℕ) (number : ℕ) (bodies lengths out done : List ℕ) where
-  pub rule-absent : sidesAt book number ≡ sides.None → (r : Passed) → RuleWritten book number bodies lengths out done r
+first-word : (ws side : List ℕ) (from n : ℕ) → take n (drop from ws) ≡ side → 0 < length side → from < length ws → 0 < n → getD ws from 0 ≡ getD side 0 0
+first-word ws side from n e l h m =
+    sym (ap (λ (k : List ℕ). getD k 0 0) (sym e) ∙ getD-take n (drop from ws) 0 0 m ∙ ap (λ (k : List ℕ). getD k 0 0) (drop-cons ws from 0 h))
+
+-- ---- the right side of a rule, with the arguments that it sets aside
+module _ (book : List ℕ) (accepted : checkBook book ≡ Good) (number : ℕ) (part bodies lengths out : List ℕ) where
+  pub rule-absent : sidesAt book number ≡ sides.None → (r : Rewrote) → RuleWritten book number part bodies lengths out r
   unfolding RuleWritten
   rule-absent e r rule q = let z : ruleAt book number ≡ none = sides-none book number e in never (cc)
 
@@ -155,44 +165,57 @@ module _ (book : List ℕ) (number : ℕ) (bodies lengths out done : List ℕ) w
     pub right-lies : (s .right ≤ s .end) × (s .end ≤ length book)
     right-lies = let q = sides-rule book number s e .2 in (q .right-next, q .within)
 
-    pub rule-written : (r : Passed) → RightWritten (take (s .end - s .right) (drop (s .right) book)) bodies lengths out done r → RuleWritten book number bodies lengths out done r
+    abbrev rule-there : (rule : Rule) × (ruleAt book number ≡ some rule) × SidesAre book rule s
+    rule-there = sides-rule book number s e
+
+    left-some : (s .left < s .right) × (0 < length (rule-there .0 .left))
+    left-some =
+        let q = rule-there .2 in
+        let i = book-rule book number (rule-there .0) accepted (rule-there .1) .left-tree in
+        let n : 0 < length (rule-there .0 .left) = omega (arith, ap length (i .same), some-long (i .tree) (i .one)) in
+        let m : length (take (s .right - s .left) (drop (s .left) book)) ≡ s .right - s .left =
+        length-take-le (s .right - s .left) (drop (s .left) book) (omega (arith, length-drop (s .left) book, q .left-first, q .right-next, q .within)) in
+        (omega (arith, n, m, ap length (q .left-is)), n)
+
+    pub left-lies : s .left < length book
+    left-lies = let q = rule-there .2 in omega (arith, left-some .0, q .right-next, q .within)
+
+    left-counts : rootArguments (leftIn (rule-there .0)) ≡ countOf (getD book (s .left) 0)
+    left-counts =
+        let f = book-rule book number (rule-there .0) accepted (rule-there .1) in
+        let i = f .left-tree in
+        ap rootArguments (left-in (rule-there .0) i)
+        ∙ root-counts (i .tree) (i .formed) (f .left-root)
+        ∙ ap (λ (ws : List ℕ). countOf (getD ws 0 0)) (sym (i .same))
+        ∙ ap countOf (sym (first-word book (rule-there .0 .left) (s .left) (s .right - s .left) (rule-there .2 .left-is) (left-some .1) left-lies (omega (arith, left-some .0))))
+
+    pub rule-written : (b : ℕ) → b ≡ countOf (getD book (s .left) 0) → (r : Rewrote) → FrontWritten (take (s .end - s .right) (drop (s .right) book)) b part bodies lengths out r
+        → RuleWritten book number part bodies lengths out r
     unfolding RuleWritten
-    rule-written r w rule q =
-        let a = sides-rule book number s e in
+    rule-written b c r w rule q =
+        let a = rule-there in
         let i : a .0 ≡ rule = some-same (a .0) rule (sym (a .1) ∙ q) in
-        rw (a .2 .right-is ∙ ap (λ (u : Rule). u .right) i) at w
+        rw (← i) (rw (a .2 .right-is, c ∙ sym left-counts) at w)
       where
         some-same : (u v : Rule) → some u ≡ some v → u ≡ v
         some-same u v z = cc
 
 -- ---- a part
-abbrev pub rewroteBy : Passed → Rewrote
-rewroteBy (step.Done n) = rewrote.Wrote n
-rewroteBy step.Stuck = rewrote.Over
-
 module _ (book : List ℕ) where
-  pub at-none : (w : Walked) (bodies lengths out : List ℕ) → BookWalked w found.None bodies lengths → RewriteTold book w out rewrote.None × Cleared bodies lengths
+  pub at-none : (t : Row) (w : Walked) (bodies lengths out : List ℕ) → BookWalked w found.None bodies lengths → RewriteTold book t w out rewrote.None × Cleared bodies lengths
   unfolding RewriteTold
-  at-none w bodies lengths out b = let q = walked-none w bodies lengths b in (rw (q .0) refl, (q .1, q .2))
+  at-none t w bodies lengths out b = let q = walked-none w bodies lengths b in (rw (q .0) refl, (q .1, q .2))
 
-  pub at-damaged : (w : Walked) (address : ℕ) (bodies lengths out : List ℕ) → BookWalked w (found.Damaged address) bodies lengths → RewriteTold book w out (rewrote.Damaged address) × Cleared bodies lengths
+  pub at-damaged : (t : Row) (w : Walked) (address : ℕ) (bodies lengths out : List ℕ) → BookWalked w (found.Damaged address) bodies lengths → RewriteTold book t w out (rewrote.Damaged address) × Cleared bodies lengths
   unfolding RewriteTold
-  at-damaged w address bodies lengths out b = let q = walked-damaged w address bodies lengths b in (rw (q .0) refl, (q .1, q .2))
+  at-damaged t w address bodies lengths out b = let q = walked-damaged w address bodies lengths b in (rw (q .0) refl, (q .1, q .2))
 
   module _ (accepted : checkBook book ≡ Good) (table ws : List ℕ) (parted : Parted ws) (some-words : 0 < length ws) where
-    wrote-within : (out done : List ℕ) → length out ≡ 4096 → (t : Row) (r : Passed) → WrittenWithin out done t r → RowWritten t done (rewroteBy r)
-    wrote-within out done long t (step.Done n) w =
-        let s = within-short t (w .0) in
-        let z : 0 + length (words t) ≡ length (words t) = omega arith in
-        let e : done ≡ words t ++ drop (length (words t)) out = w .2 ∙ sets-eq (words t) out 0 (omega arith) ∙ rw z in
-        (w .0, w .1, omega (arith, w .1), ap (take n) e ∙ take-at (words t) (drop (length (words t)) out) n (sym (w .1)))
-    wrote-within out done long t step.Stuck w = w
-
     rule-told : (f : Fitting) (n : ℕ) (rule : Rule) → ruleAt book (f .number) ≡ some rule → n ≡ rule .vars → ((x : ℕ) → x < n → IsBody (f .bodies x))
         → (bodies lengths : List ℕ) → bodies ≡ bodyList (f .bodies) 0 n ++ replicate (65536 - length (bodyList (f .bodies) 0 n)) 0 → lengths ≡ lengthList (f .bodies) 0 n ++ replicate (16 - n) 0
-        → (out done : List ℕ) → length out ≡ 4096 → (r : Passed) → RuleWritten book (f .number) bodies lengths out done r → RowWritten (rewritten book f) done (rewroteBy r)
-    unfolding RuleWritten RightWritten rewritten
-    rule-told f n rule e vars terms bodies lengths b l out done long r w =
+        → (out : List ℕ) (r : Rewrote) → RuleWritten book (f .number) ws bodies lengths out r → TakenTold (manyAside book (partFrom ws 0) f) (rewritten book (partFrom ws 0) f) out r
+    unfolding RuleWritten FrontWritten rewritten
+    rule-told f n rule e vars terms bodies lengths b l out r w =
         let facts = book-rule book (f .number) rule accepted e in
         let right = facts .right-tree in
         let t : treeOf (rule .right) ≡ right .tree = tree-of sideLimits (rule .right) right in
@@ -204,22 +227,23 @@ module _ (book : List ℕ) where
           same = λ x h. rw (b, l) (stands-at (f .bodies) n (replicate (65536 - length (bodyList (f .bodies) 0 n)) 0) (replicate (16 - n) 0) x (omega (arith, vars, h)));
         } in
         let low : nesting (treeOf (rule .right)) ≤ 16 = rw t (right .low) in
-        rw e (wrote-within out done long (write (f .bodies) 0 (treeOf (rule .right))) r (w rule e (rule .vars) (parametersOf (rule .left)) (f .bodies) (treeOf (rule .right)) (a .0) (a .1) low (ap words t ∙ sym (right .same)) stand))
+        rw e (w rule e (rule .vars) (parametersOf (rule .left)) (f .bodies) (treeOf (rule .right)) (a .0) (a .1) low (ap words t ∙ sym (right .same)) stand)
 
     found-told : (f : Fitting) (n : ℕ) → FoundSound (bookFits book) (RuleFits f n) → (bodies lengths : List ℕ) → bodies ≡ bodyList (f .bodies) 0 n ++ replicate (65536 - length (bodyList (f .bodies) 0 n)) 0
-        → lengths ≡ lengthList (f .bodies) 0 n ++ replicate (16 - n) 0 → (out done : List ℕ) → length out ≡ 4096 → (r : Passed) → RuleWritten book (f .number) bodies lengths out done r → RowWritten (rewritten book f) done (rewroteBy r)
-    found-told f n fs bodies lengths b l out done long r w =
+        → lengths ≡ lengthList (f .bodies) 0 n ++ replicate (16 - n) 0 → (out : List ℕ) (r : Rewrote) → RuleWritten book (f .number) ws bodies lengths out r
+        → TakenTold (manyAside book (partFrom ws 0) f) (rewritten book (partFrom ws 0) f) out r
+    found-told f n fs bodies lengths b l out r w =
         let q = fits-rule book (f .number) (fs .0) (fs .2) in
-        rule-told f n (q .0) (q .1) (sym (fs .1) ∙ q .2) (fs .3) bodies lengths b l out done long r w
+        rule-told f n (q .0) (q .1) (sym (fs .1) ∙ q .2) (fs .3) bodies lengths b l out r w
 
-    pub at-rule : (number : ℕ) (bodies lengths : List ℕ) → BookWalked (bookWalk book table ws) (found.Rule number) bodies lengths → (out done : List ℕ) → length out ≡ 4096
-        → (r : Passed) → RuleWritten book number bodies lengths out done r → RewriteTold book (bookWalk book table ws) done (rewroteBy r)
+    pub at-rule : (number : ℕ) (bodies lengths : List ℕ) → BookWalked (bookWalk book table ws) (found.Rule number) bodies lengths → (out : List ℕ)
+        → (r : Rewrote) → RuleWritten book number ws bodies lengths out r → RewriteTold book (partFrom ws 0) (bookWalk book table ws) out r
     unfolding RewriteTold
-    at-rule number bodies lengths k out done long r w =
+    at-rule number bodies lengths k out r w =
         let q = walked-rule (bookWalk book table ws) number bodies lengths k in
         go (bookWalk book table ws) (walk-sound (bookFits book) table (partFrom ws 0) (parted-body ws parted some-words)) (q .0) (q .1) (q .2) (q .3) (q .4) (q .5)
       where
         go : (v : Walked) → FoundSound (bookFits book) v → (f : Fitting) (n : ℕ) → v ≡ RuleFits f n → number ≡ f .number
             → bodies ≡ bodyList (f .bodies) 0 n ++ replicate (65536 - length (bodyList (f .bodies) 0 n)) 0 → lengths ≡ lengthList (f .bodies) 0 n ++ replicate (16 - n) 0
-            → RewriteTold book v done (rewroteBy r)
-        go v s f n e y b l = rw e (found-told f n (rw e at s) bodies lengths b l out done long r (rw y at w))
+            → RewriteTold book (partFrom ws 0) v out r
+        go v s f n e y b l = rw e (found-told f n (rw e at s) bodies lengths b l out r (rw y at w))

@@ -17,7 +17,7 @@ use Rattle.book.specs.Accept.{accept}
 use Rattle.book.proofs.Laws.{good-accepted, bad-refused}
 use Rattle.fit.proofs.Laws.{term-is-body, body-is-term, tree-of}
 use Rattle.steps.specs.Simplify.{Run, Stopped, Ended, runWithTerm, runWithBook, simplifyBy, simplify, simplifyAnswer, simplifyWords}
-use Rattle.steps.proofs.Steps.{EndsAs, rests, used, StopsAs, broken, over, RunIs, run-is, steps-term}
+use Rattle.steps.proofs.Steps.{EndsAs, rests, used, StopsAs, broken, cannot, over, RunIs, run-is, steps-term}
 
 abbrev pub RunGives : ℕ → Run → Type 0
 RunGives room (Stopped n a) = (simplifyAnswer room (Stopped n a) ≡ a) × (10 ≤ numberOf a)
@@ -35,7 +35,8 @@ ended-gives room n a t h i l = (rw (le-leb (length (words t)) room l), h, i, pad
 module _ (book table : List ℕ) where
   stops-refused : (budget n : ℕ) (v : Row) (a : Answer) → StopsAs book table budget n v a → 10 ≤ numberOf a
   stops-refused budget n v a (broken address e q) = rw e (omega arith)
-  stops-refused budget n v a (over e m at f q w) = rw e (omega arith)
+  stops-refused budget n v a (cannot at f e m q w) = rw e (omega arith)
+  stops-refused budget n v a (over e m at f q u w z) = rw e (omega arith)
 
   ends-given : (budget n : ℕ) (v : Row) (a : Answer) → EndsAs book table budget n v a → numberOf a < 10
   ends-given budget n v a (rests e q) = rw e (omega arith)

@@ -1,6 +1,7 @@
 -- A run in the work area: the steps made so far and what is left to run give the whole run.
 use mathlib.Core.Path.{_≡_, refl, sym, ap, ap₂, _∙_}
 use mathlib.Core.List.{List, [], _++_}
+use mathlib.Core.Option.{Option, none, some}
 use Prim.Native.Nat.{ℕ, zero, suc, _+_, _-_, _≤_}
 use native.Mathlib.Omega.{arith}
 use lib.ListN.{length, take, drop, replicate}
@@ -20,13 +21,16 @@ use Rattle.book.specs.Accept.{accept}
 use Rattle.book.specs.Book.{checkBook}
 use Rattle.fit.specs.Match.{treeOf}
 use Rattle.fit.proofs.Laws.{body-is-term, tree-of}
+use Rattle.steps.specs.Offset.{partAt}
+use Rattle.steps.specs.Rewrite.{manyAside, rewritten}
 use Rattle.steps.specs.Step.{Sought, Nowhere, FoundAt, Broken, lowestOffset, Stepped, Rests, Becomes, Refused, step}
 use Rattle.steps.specs.Simplify.{Run, Stopped, Ended, oneMore, budgetUsed, afterStep, simplifyBy, runWithTerm, runWithBook, simplify, simplifyAnswer, simplifyWords, simplifySteps}
+use Rattle.steps.specs.declared.simplify.Lowest.{Lowest}
 use Rattle.steps.specs.declared.simplify.Lowest.the-variants as lowest
 use Rattle.steps.specs.declared.simplify.Moved.the-variants as moved
 use Rattle.steps.specs.declared.simplify.Ran.{Ran}
 use Rattle.steps.specs.declared.simplify.Simplified.{Simplified}
-use Rattle.steps.specs.told.Operations.{asked, givenAnswer, LowestTold, MoveTold, RanTold, countedFrom, lookedAfter}
+use Rattle.steps.specs.told.Operations.{asked, givenAnswer, FoundTaken, LowestTold, MoveTold, RanTold, countedFrom, lookedAfter}
 use Rattle.steps.proofs.Asked.{sound-book, sound-term}
 use Rattle.steps.proofs.Steps.{step-term}
 use Rattle.steps.proofs.Seeks.{tree-body, tree-words}
@@ -56,41 +60,48 @@ module _ (book table ws : List ℕ) (i : IsTerm ws) (n : ℕ) (new : List ℕ) (
   whole-told : (a : Answer) → r .answer ≡ a → r .size ≡ length ws → RanTold (countedFrom n (Ended 0 a (treeOf ws))) r ws
   whole-told a e z = ended-told n ws r steps a (treeOf ws) e (omega (arith, z)) (ap (λ (m : ℕ). take m ws) z ∙ take-length ws ∙ sym (tree-words ws i))
 
-  pub look-done : LowestTold book (lowestOffset book table (treeOf ws)) new lowest.Nowhere → r .answer ≡ answer.Done → r .size ≡ length ws → RanTold (lookedAfter book table n (treeOf ws)) r ws
+  pub look-done : LowestTold book (treeOf ws) (lowestOffset book table (treeOf ws)) new lowest.Nowhere → r .answer ≡ answer.Done → r .size ≡ length ws → RanTold (lookedAfter book table n (treeOf ws)) r ws
   unfolding LowestTold
   look-done l e z = go sought l
     where
-      go : (s : Sought) → LowestTold book s new lowest.Nowhere → RanTold (countedFrom n (budgetUsed (treeOf ws) s)) r ws
+      taken : (at m : ℕ) (o : Option Row) → FoundTaken at m o new lowest.Nowhere → ⊥
+      taken at m none l = let z : lowest.Nowhere ≡ lowest.CannotTake m = l in never (cc)
+      taken at m (some u) l = l
+
+      go : (s : Sought) → LowestTold book (treeOf ws) s new lowest.Nowhere → RanTold (countedFrom n (budgetUsed (treeOf ws) s)) r ws
       go Nowhere l = whole-told answer.Done e z
-      go (FoundAt at f) l = absurd l
+      go (FoundAt at f) l = absurd (taken at (manyAside book (partAt (treeOf ws) at) f) (rewritten book (partAt (treeOf ws) at) f) l)
       go (Broken address) l = let z : lowest.Nowhere ≡ lowest.Broken address = l in never (cc)
 
-  pub look-used : (at m : ℕ) → LowestTold book (lowestOffset book table (treeOf ws)) new (lowest.At at m) → r .answer ≡ answer.BudgetUsed → r .size ≡ length ws → RanTold (lookedAfter book table n (treeOf ws)) r ws
+  -- a rule still fits, whatever it would write
+  look-found : (s : Sought) (low : Lowest) → LowestTold book (treeOf ws) s new low → (low ≡ lowest.Nowhere → ⊥) → ((address : ℕ) → low ≡ lowest.Broken address → ⊥)
+      → r .answer ≡ answer.BudgetUsed → r .size ≡ length ws → RanTold (countedFrom n (budgetUsed (treeOf ws) s)) r ws
   unfolding LowestTold
-  look-used at m l e z = go sought l
-    where
-      go : (s : Sought) → LowestTold book s new (lowest.At at m) → RanTold (countedFrom n (budgetUsed (treeOf ws) s)) r ws
-      go Nowhere l = let z : lowest.At at m ≡ lowest.Nowhere = l in never (cc)
-      go (FoundAt a f) l = whole-told answer.BudgetUsed e z
-      go (Broken address) l = let z : lowest.At at m ≡ lowest.Broken address = l in never (cc)
+  look-found Nowhere low l x y e z = absurd (x l)
+  look-found (FoundAt at f) low l x y e z = whole-told answer.BudgetUsed e z
+  look-found (Broken address) low l x y e z = absurd (y address l)
 
-  pub look-over : LowestTold book (lowestOffset book table (treeOf ws)) new lowest.Over → r .answer ≡ answer.BudgetUsed → r .size ≡ length ws → RanTold (lookedAfter book table n (treeOf ws)) r ws
-  unfolding LowestTold
-  look-over l e z = go sought l
-    where
-      go : (s : Sought) → LowestTold book s new lowest.Over → RanTold (countedFrom n (budgetUsed (treeOf ws) s)) r ws
-      go Nowhere l = let z : lowest.Over ≡ lowest.Nowhere = l in never (cc)
-      go (FoundAt at f) l = whole-told answer.BudgetUsed e z
-      go (Broken address) l = let z : lowest.Over ≡ lowest.Broken address = l in never (cc)
+  pub look-used : (at m : ℕ) → LowestTold book (treeOf ws) (lowestOffset book table (treeOf ws)) new (lowest.At at m) → r .answer ≡ answer.BudgetUsed → r .size ≡ length ws → RanTold (lookedAfter book table n (treeOf ws)) r ws
+  look-used at m l = look-found sought (lowest.At at m) l (λ q. never (cc)) (λ address q. never (cc))
 
-  pub look-broken : (address : ℕ) → LowestTold book (lowestOffset book table (treeOf ws)) new (lowest.Broken address) → r .answer ≡ answer.Damaged address → r .size ≡ 0
+  pub look-cannot : (m : ℕ) → LowestTold book (treeOf ws) (lowestOffset book table (treeOf ws)) new (lowest.CannotTake m) → r .answer ≡ answer.BudgetUsed → r .size ≡ length ws → RanTold (lookedAfter book table n (treeOf ws)) r ws
+  look-cannot m l = look-found sought (lowest.CannotTake m) l (λ q. never (cc)) (λ address q. never (cc))
+
+  pub look-over : LowestTold book (treeOf ws) (lowestOffset book table (treeOf ws)) new lowest.Over → r .answer ≡ answer.BudgetUsed → r .size ≡ length ws → RanTold (lookedAfter book table n (treeOf ws)) r ws
+  look-over l = look-found sought lowest.Over l (λ q. never (cc)) (λ address q. never (cc))
+
+  pub look-broken : (address : ℕ) → LowestTold book (treeOf ws) (lowestOffset book table (treeOf ws)) new (lowest.Broken address) → r .answer ≡ answer.Damaged address → r .size ≡ 0
       → RanTold (lookedAfter book table n (treeOf ws)) r ws
   unfolding LowestTold
   look-broken address l e z = go sought l
     where
-      go : (s : Sought) → LowestTold book s new (lowest.Broken address) → RanTold (countedFrom n (budgetUsed (treeOf ws) s)) r ws
+      taken : (at m : ℕ) (o : Option Row) → FoundTaken at m o new (lowest.Broken address) → ⊥
+      taken at m none l = let z : lowest.Broken address ≡ lowest.CannotTake m = l in never (cc)
+      taken at m (some u) l = l
+
+      go : (s : Sought) → LowestTold book (treeOf ws) s new (lowest.Broken address) → RanTold (countedFrom n (budgetUsed (treeOf ws) s)) r ws
       go Nowhere l = let z : lowest.Broken address ≡ lowest.Nowhere = l in never (cc)
-      go (FoundAt at f) l = absurd l
+      go (FoundAt at f) l = absurd (taken at (manyAside book (partAt (treeOf ws) at) f) (rewritten book (partAt (treeOf ws) at) f) l)
       go (Broken a) l = let y : lowest.Broken address ≡ lowest.Broken a = l in let x : address ≡ a = cc in stopped-told n ws r steps (answer.Damaged a) (e ∙ ap answer.Damaged x) z
 
 -- what is told of the first words of the area is told of the area

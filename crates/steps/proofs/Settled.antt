@@ -10,6 +10,7 @@ use lib.ListN.{getD}
 use borrow.Author.Tests.{ltb-true, ltb-false}
 use Rattle.term.specs.declared.check.Checked.the-variants.{Good}
 use Rattle.term.specs.declared.answer.Answer.{Answer}
+use Rattle.term.specs.declared.answer.Answer.the-variants.{CannotTake}
 use Rattle.term.specs.Word.{Head, symbol, abstraction, variable, pattern}
 use Rattle.term.specs.Row.{Row, nothing, node, _⧺_}
 use Rattle.term.specs.Renumber.{inside}
@@ -18,18 +19,20 @@ use Rattle.book.specs.Book.{Rule, checkBook, ruleAt}
 use Rattle.fit.specs.Fit.{IsBody}
 use Rattle.fit.specs.Match.{treeOf, leftIn}
 use Rattle.fit.specs.Lowest.{Fitting}
+use Rattle.fit.specs.Front.{asideO}
 use Rattle.fit.specs.Build.{withinLimits}
 use Rattle.fit.proofs.Laws.{unique, accepted-good, LowestIs, LowestFits, lowest-none, lowest-some}
 use Rattle.steps.specs.Right.{replaced, inBody, writtenTree, write}
 use Rattle.steps.specs.told.Told.{RightHead, RightRow}
-use Rattle.steps.specs.Rewrite.{rightIn, rewritten}
+use Rattle.steps.specs.Arguments.{withAside}
+use Rattle.steps.specs.Rewrite.{rightIn, setAside, manyAside, rewritten}
 use Rattle.steps.specs.Offset.{partAt, spliced}
 use Rattle.steps.specs.Step.{Nowhere, FoundAt}
 use Rattle.steps.specs.Simplify.{Run, Stopped, Ended}
 use Rattle.steps.proofs.Writing.{write-nothing, write-node}
 use Rattle.steps.proofs.RightRows.{parametersOf, accepted-right}
 use Rattle.steps.proofs.Steps.{part-term, rule-writes, spliced-term}
-use Rattle.steps.proofs.Demand.{FirstFit, OneStep, Reaches, Rested, normal, unfinished, TooLarge, Simplified}
+use Rattle.steps.proofs.Demand.{FirstFit, OneStep, Reaches, Rested, normal, unfinished, TooLarge, TooMany, Barred, large, many, Simplified}
 
 -- ---- writing asks for the bodies of the rule's variables alone
 module _ (vars : ℕ) (k : ℕ → ℕ) (b c : ℕ → Row) (same : (x : ℕ) → x < vars → b x ≡ c x) where
@@ -73,13 +76,20 @@ module _ (book : List ℕ) (accepted : checkBook book ≡ Good) where
         unique (a .rule .vars) (leftIn (a .rule)) (accepted-good book accepted (f .number) (a .rule) (a .found)) p (i .within) (i .one) (f .bodies) (g .bodies) (a .fits)
         (rw same-rule (c .fits)) x h
 
-    pub same-written : rewritten book f ≡ rewritten book g
-    unfolding rewritten
-    same-written =
+    same-right : write (f .bodies) 0 (rightIn (ruleAt book (f .number))) ≡ write (g .bodies) 0 (rightIn (ruleAt book (g .number)))
+    same-right =
         let r = accepted-right book accepted (f .number) (a .rule) (a .found) in
         ap (λ (o : Option Rule). write (f .bodies) 0 (rightIn o)) (a .found)
         ∙ write-same (a .rule .vars) (parametersOf (a .rule .left)) (f .bodies) (g .bodies) same-bodies 0 (treeOf (a .rule .right)) (r .0)
         ∙ ap (λ (o : Option Rule). write (g .bodies) 0 (rightIn o)) (sym (a .found) ∙ ap (ruleAt book) same-number)
+
+    -- what they make of the term, and how many arguments they set aside
+    pub same-written : rewritten book p f ≡ rewritten book p g
+    unfolding rewritten
+    same-written = ap₂ withAside same-right (ap (λ (n : ℕ). setAside (ruleAt book n) p) same-number)
+
+    pub same-aside : manyAside book p f ≡ manyAside book p g
+    same-aside = ap (λ (n : ℕ). asideO (ruleAt book n) p) same-number
 
   -- ---- the lowest offset is the only one
   fits-none : (p : Row) (f : Fitting) → LowestIs book 0 (getD book 0 0) p (some f) → LowestIs book 0 (getD book 0 0) p none → ⊥
@@ -94,24 +104,36 @@ module _ (book : List ℕ) (accepted : checkBook book ≡ Good) where
     same-offset : m ≡ n
     same-offset = equal-numbers m n (λ l. fits-none (partAt t m) f (a .1) (c .2 m l)) (λ l. fits-none (partAt t n) g (c .1) (a .2 n l))
 
-    pub same-spliced : spliced t m (rewritten book f) ≡ spliced t n (rewritten book g)
-    same-spliced =
-        let e = same-offset in
-        let q : LowestIs book 0 (getD book 0 0) (partAt t m) (some g) = rw e (c .1) in
-        ap₂ (spliced t) e
-        (same-written (partAt t m) (part-term t i m (a .0)) f g
-        (lowest-some book 0 (getD book 0 0) (partAt t m) f (a .1)) (lowest-some book 0 (getD book 0 0) (partAt t m) g q))
+    at-one : LowestIs book 0 (getD book 0 0) (partAt t m) (some g)
+    at-one = rw same-offset (c .1)
+
+    pub same-made : rewritten book (partAt t m) f ≡ rewritten book (partAt t n) g
+    same-made =
+        same-written (partAt t m) (part-term t i m (a .0)) f g
+        (lowest-some book 0 (getD book 0 0) (partAt t m) f (a .1)) (lowest-some book 0 (getD book 0 0) (partAt t m) g at-one)
+        ∙ ap (λ (k : ℕ). rewritten book (partAt t k) g) same-offset
+
+    pub same-many : manyAside book (partAt t m) f ≡ manyAside book (partAt t n) g
+    same-many =
+        same-aside (partAt t m) (part-term t i m (a .0)) f g
+        (lowest-some book 0 (getD book 0 0) (partAt t m) f (a .1)) (lowest-some book 0 (getD book 0 0) (partAt t m) g at-one)
+        ∙ ap (λ (k : ℕ). manyAside book (partAt t k) g) same-offset
+
+    pub same-spliced : (u v : Row) → rewritten book (partAt t m) f ≡ some u → rewritten book (partAt t n) g ≡ some v → spliced t m u ≡ spliced t n v
+    same-spliced u v x y = let z : u ≡ v = (let q = same-made in cc) in ap₂ (spliced t) same-offset z
 
   -- a step has one outcome, and that is a term
   pub one-outcome : (t u v : Row) → IsBody t → OneStep book t u → OneStep book t v → u ≡ v
-  one-outcome t u v i a c = a .is ∙ same-spliced t i (a .at) (c .at) (a .fitting) (c .fitting) (a .first) (c .first) ∙ sym (c .is)
+  one-outcome t u v i a c =
+      a .is ∙ same-spliced t i (a .at) (c .at) (a .fitting) (c .fitting) (a .first) (c .first) (a .new) (c .new) (a .writes) (c .writes) ∙ sym (c .is)
 
   outcome-term : (t u : Row) → IsBody t → OneStep book t u → IsBody u
   outcome-term t u i s =
       let l = lowest-some book 0 (getD book 0 0) (partAt t (s .at)) (s .fitting) (s .first .1) in
       rw (s .is)
-      (spliced-term book accepted book t i (s .at) (s .first .0) (rewritten book (s .fitting))
-      (rule-writes book accepted book (s .fitting) (l .rule) (l .found) (λ x h. l .fits .bodies x h)) (sym (ap withinLimits (s .is)) ∙ s .within))
+      (spliced-term book accepted book t i (s .at) (s .first .0) (s .new)
+      (rule-writes book accepted book (s .fitting) (l .rule) (l .found) (λ x h. l .fits .bodies x h) (partAt t (s .at)) (part-term t i (s .at) (s .first .0)) (s .new) (s .writes))
+      (sym (ap withinLimits (s .is)) ∙ s .within))
 
   -- ---- a run has one end
   data Halts (budget n : ℕ) (v : Row) : Type 0 where
@@ -144,10 +166,22 @@ module _ (book : List ℕ) (accepted : checkBook book ≡ Good) where
   large-halts : (budget n : ℕ) (v : Row) (a : Answer) → IsBody v → TooLarge book budget n v a → Halts budget n v
   large-halts budget n v a i l =
       stuck (λ u s.
-      let e = s .is ∙ same-spliced v i (s .at) (l .at) (s .fitting) (l .fitting) (s .first) (l .first) in
-      let q : withinLimits (spliced v (l .at) (rewritten book (l .fitting))) ≡ true = sym (ap withinLimits e) ∙ s .within in
+      let e = s .is ∙ same-spliced v i (s .at) (l .at) (s .fitting) (l .fitting) (s .first) (l .first) (s .new) (l .new) (s .writes) (l .writes) in
+      let q : withinLimits (spliced v (l .at) (l .new)) ≡ true = sym (ap withinLimits e) ∙ s .within in
       let z = l .large in
       never (cc))
+
+  many-halts : (budget n : ℕ) (v : Row) (a : Answer) → IsBody v → TooMany book budget n v a → Halts budget n v
+  many-halts budget n v a i l =
+      stuck (λ u s.
+      let e = same-made v i (s .at) (l .at) (s .fitting) (l .fitting) (s .first) (l .first) in
+      let x = s .writes in
+      let z = l .refuses in
+      never (cc))
+
+  barred-halts : (budget n : ℕ) (v : Row) (a : Answer) → IsBody v → Barred book budget n v a → Halts budget n v
+  barred-halts budget n v a i (large l) = large-halts budget n v a i l
+  barred-halts budget n v a i (many l) = many-halts budget n v a i l
 
   reached-term : (n : ℕ) (t v : Row) → IsBody t → Reaches book n t v → IsBody v
   unfolding Reaches
@@ -161,9 +195,25 @@ module _ (book : List ℕ) (accepted : checkBook book ≡ Good) where
   same-answer budget n v a c (unfinished e m at x y) (normal g h) = absurd (nowhere-found v at x h y)
   same-answer budget n v a c (unfinished e m at x y) (unfinished g o to z u) = e ∙ sym g
 
-  not-both : (budget n : ℕ) (v : Row) (a c : Answer) → Rested book budget n v a → TooLarge book budget n v c → ⊥
-  not-both budget n v a c (normal e f) l = nowhere-found v (l .at) (l .fitting) f (l .first)
-  not-both budget n v a c (unfinished e m at x y) l = omega (arith, m, l .left)
+  not-both : (budget n : ℕ) (v : Row) (a c : Answer) → Rested book budget n v a → Barred book budget n v c → ⊥
+  not-both budget n v a c (normal e f) (large l) = nowhere-found v (l .at) (l .fitting) f (l .first)
+  not-both budget n v a c (normal e f) (many l) = nowhere-found v (l .at) (l .fitting) f (l .first)
+  not-both budget n v a c (unfinished e m at x y) (large l) = omega (arith, m, l .left)
+  not-both budget n v a c (unfinished e m at x y) (many l) = omega (arith, m, l .left)
+
+  not-large : (budget n : ℕ) (v : Row) (a c : Answer) → IsBody v → TooLarge book budget n v a → TooMany book budget n v c → ⊥
+  not-large budget n v a c i x y =
+      let e = same-made v i (x .at) (y .at) (x .fitting) (y .fitting) (x .first) (y .first) in
+      let p = x .writes in
+      let q = y .refuses in
+      never (cc)
+
+  same-refusal : (budget n : ℕ) (v : Row) (a c : Answer) → IsBody v → Barred book budget n v a → Barred book budget n v c → a ≡ c
+  same-refusal budget n v a c i (large x) (large y) = x .answer ∙ sym (y .answer)
+  same-refusal budget n v a c i (large x) (many y) = absurd (not-large budget n v a c i x y)
+  same-refusal budget n v a c i (many x) (large y) = absurd (not-large budget n v c a i y x)
+  same-refusal budget n v a c i (many x) (many y) =
+      x .answer ∙ ap CannotTake (same-many v i (x .at) (y .at) (x .fitting) (y .fitting) (x .first) (y .first)) ∙ sym (y .answer)
 
   -- two runs of which this is said are one
   pub one-run : (budget : ℕ) (t : Row) → IsBody t → (r s : Run) → Simplified book budget t r → Simplified book budget t s → r ≡ s
@@ -172,12 +222,12 @@ module _ (book : List ℕ) (accepted : checkBook book ≡ Good) where
       let q : a ≡ c = same-answer budget n v a c (x .2) (rw (e .0, e .1) (y .2)) in
       rw (e .0, e .1, q)
   one-run budget t i (Ended n a v) (Stopped m c) x y =
-      let e = one-end budget n m t v (y .0) i (x .0) (y .1) (x .1) (y .2) (rested-halts budget n v a (x .2)) (large-halts budget m (y .0) c (reached-term m t (y .0) i (y .1)) (y .3)) in
+      let e = one-end budget n m t v (y .0) i (x .0) (y .1) (x .1) (y .2) (rested-halts budget n v a (x .2)) (barred-halts budget m (y .0) c (reached-term m t (y .0) i (y .1)) (y .3)) in
       absurd (not-both budget m (y .0) a c (rw (e .0, e .1) at (x .2)) (y .3))
   one-run budget t i (Stopped n a) (Ended m c w) x y =
-      let e = one-end budget m n t w (x .0) i (y .0) (x .1) (y .1) (x .2) (rested-halts budget m w c (y .2)) (large-halts budget n (x .0) a (reached-term n t (x .0) i (x .1)) (x .3)) in
+      let e = one-end budget m n t w (x .0) i (y .0) (x .1) (y .1) (x .2) (rested-halts budget m w c (y .2)) (barred-halts budget n (x .0) a (reached-term n t (x .0) i (x .1)) (x .3)) in
       absurd (not-both budget n (x .0) c a (rw (e .0, e .1) at (y .2)) (x .3))
   one-run budget t i (Stopped n a) (Stopped m c) x y =
-      let e = one-end budget n m t (x .0) (y .0) i (x .1) (y .1) (x .2) (y .2) (large-halts budget n (x .0) a (reached-term n t (x .0) i (x .1)) (x .3))
-      (large-halts budget m (y .0) c (reached-term m t (y .0) i (y .1)) (y .3)) in
-      ap₂ Stopped (e .0) (x .3 .answer ∙ sym (y .3 .answer))
+      let e = one-end budget n m t (x .0) (y .0) i (x .1) (y .1) (x .2) (y .2) (barred-halts budget n (x .0) a (reached-term n t (x .0) i (x .1)) (x .3))
+      (barred-halts budget m (y .0) c (reached-term m t (y .0) i (y .1)) (y .3)) in
+      ap₂ Stopped (e .0) (same-refusal budget n (x .0) a c (reached-term n t (x .0) i (x .1)) (x .3) (rw (e .0, e .1) (y .3)))

@@ -10,7 +10,7 @@ use borrow.Author.Tests.{leb-true}
 use Rattle.term.specs.Word.{Head, symbol, abstraction, variable, pattern, rank, count, InTable}
 use Rattle.term.specs.Row.{Row, nothing, node, width, words, nesting, ranks, Formed, _⧺_}
 use Rattle.term.specs.Renumber.{idTerm, inside, renumberHead, renumber}
-use Rattle.term.proofs.Laws.{and-left, and-right, rank-symbol, rank-abstraction, count-variable, join-nothing-left, join-node, width-join, width-node, width-nothing, ranks-join, ranks-node, ranks-nothing, rank-variable, formed-nothing, formed-node, node-formed, renumber-nothing, renumber-node, renumber-symbol, renumber-abstraction, renumber-variable, renumber-pattern, term-own, term-outside, term-keeps, variable-id, id-variable}
+use Rattle.term.proofs.Laws.{and-left, and-right, rank-symbol, rank-abstraction, count-variable, join-nothing-left, join-node, words-node, width-join, width-node, width-nothing, ranks-join, ranks-node, ranks-nothing, rank-variable, formed-nothing, formed-node, node-formed, renumber-nothing, renumber-node, renumber-symbol, renumber-abstraction, renumber-variable, renumber-pattern, term-own, term-outside, term-keeps, variable-id, id-variable}
 use Rattle.fit.specs.Constraint.{tree}
 use Rattle.fit.specs.Build.{idIn, largest, withinLimits}
 use Rattle.fit.proofs.Laws.{tree-nothing, tree-first, tree-later, largest-node, within-limits-is}
@@ -20,6 +20,10 @@ use Rattle.steps.proofs.Replaced.{replaced-nothing, replaced-node}
 use Rattle.steps.proofs.Writing.{write-nothing, write-node, shifted-is, in-own, in-inner, in-outside, IdCase, own, inner, outside, id-case}
 
 -- ---- widths
+pub some-long : (t : Row) → width t ≡ 1 → 0 < length (words t)
+some-long nothing e = let z : _≡_ {A = ℕ} 0 1 = sym width-nothing ∙ e in absurd (omega (arith, z))
+some-long (node h kids rest) e = rw (words-node h kids rest) (omega arith)
+
 pub width-tree : (r : Row) (j : ℕ) → j < width r → width (tree r j) ≡ 1
 width-tree nothing j h = absurd (omega (arith, width-nothing))
 width-tree (node h kids rest) zero l = rw (tree-first h kids rest) (width-node h kids nothing ∙ ap suc width-nothing)

@@ -2,7 +2,7 @@
 use mathlib.Core.Path.{_≡_, refl, ap, _∙_}
 use mathlib.Core.Bool.{Bool, true, false}
 use mathlib.Core.List.{List, _++_}
-use mathlib.Core.Option.{some}
+use mathlib.Core.Option.{Option, none, some}
 use Prim.Native.Nat.{ℕ, zero, suc, _+_, _≤_, _<_}
 use native.Mathlib.Omega.{arith}
 use lib.Dec.{eqb}
@@ -10,22 +10,26 @@ use lib.ListN.{length, length-append}
 use borrow.Author.Tests.{eqb-true, eqb-false}
 use Rattle.term.specs.declared.check.Checked.the-variants.{Good}
 use Rattle.term.specs.declared.answer.Answer.{Answer}
-use Rattle.term.specs.declared.answer.Answer.the-variants.{Done, BudgetUsed, Damaged, Over}
+use Rattle.term.specs.declared.answer.Answer.the-variants.{Done, BudgetUsed, Damaged, Over, CannotTake}
 use Rattle.term.specs.Word.{pick}
 use Rattle.term.specs.Row.{Row, width, words, ranks}
 use Rattle.book.specs.Book.{Rule, checkBook, ruleAt}
 use Rattle.fit.specs.Fit.{IsBody}
 use Rattle.fit.specs.Lowest.{Fitting}
-use Rattle.fit.specs.Match.{treeOf}
+use Rattle.fit.specs.Match.{treeOf, leftIn}
+use Rattle.fit.specs.Front.{rootArguments, asideArguments}
 use Rattle.fit.specs.Build.{withinLimits}
 use Rattle.walk.specs.Walk.{Walked, NoneFits, RuleFits, DamagedAt, walk, bookFits}
 use Rattle.walk.proofs.Laws.{FoundSound, walk-sound, fits-rule}
-use Rattle.steps.specs.Rewrite.{rewritten}
+use Rattle.steps.specs.Right.{write}
+use Rattle.steps.specs.Arguments.{withAside}
+use Rattle.steps.specs.Rewrite.{manyAside, rewritten}
 use Rattle.steps.specs.Offset.{partAt, spliced}
-use Rattle.steps.specs.Step.{Sought, Nowhere, FoundAt, Broken, orLater, seekRule, lowestOffset, Stepped, Rests, Becomes, Refused, wholeWithin, stepFound, step}
+use Rattle.steps.specs.Step.{Sought, Nowhere, FoundAt, Broken, orLater, seekRule, lowestOffset, Stepped, Rests, Becomes, Refused, wholeWithin, stepTaken, stepFound, step}
 use Rattle.steps.specs.Simplify.{Run, Stopped, Ended, oneMore, budgetUsed, afterStep, simplifyBy}
 use Rattle.steps.proofs.RightRows.{parametersOf, accepted-right}
 use Rattle.steps.proofs.Shaped.{Shaped, formed-shaped, width-written, few-written, shaped-written, limits-within}
+use Rattle.steps.proofs.Arguments.{aside-wide, aside-shaped, aside-few, aside-is}
 use Rattle.steps.proofs.Offsets.{split, part-of, splice-keeps}
 
 -- ---- the lowest offset
@@ -89,30 +93,43 @@ part-term t i at l =
     }
 
 module _ (book : List ℕ) (accepted : checkBook book ≡ Good) (table : List ℕ) where
-  -- ---- what a rule that is found writes is one term, but for its limits
+  -- ---- what a rule that is found makes of a term is one term, but for its limits
   pub record Wrote (u : Row) : Type 0 where
     pub one : width u ≡ 1
     pub few : ranks u ≤ 2
     pub shaped : Shaped u
 
-  pub rule-writes : (f : Fitting) (rule : Rule) → ruleAt book (f .number) ≡ some rule → ((x : ℕ) → x < rule .vars → IsBody (f .bodies x)) → Wrote (rewritten book f)
-  unfolding rewritten
-  rule-writes f rule e b =
+  right-writes : (f : Fitting) (rule : Rule) → ruleAt book (f .number) ≡ some rule → ((x : ℕ) → x < rule .vars → IsBody (f .bodies x)) → Wrote (write (f .bodies) 0 (treeOf (rule .right)))
+  right-writes f rule e b =
       let r = accepted-right book accepted (f .number) rule e in
       let k = parametersOf (rule .left) in
       let w : (x : ℕ) → x < rule .vars → width (f .bodies x) ≡ 1 = λ x h. b x h .one in
-      rw e
-      (record {
+      record {
         one = width-written (rule .vars) (f .bodies) w k 0 (treeOf (rule .right)) (r .0) ∙ r .1;
         few = few-written (rule .vars) (f .bodies) w k (λ x h. b x h .within .few) 0 (treeOf (rule .right)) (r .0);
         shaped = shaped-written (rule .vars) (f .bodies) w k (λ x h. b x h .within .formed) 0 (treeOf (rule .right)) (r .0);
-      })
+      }
 
-  pub found-writes : (p : Row) → IsBody p → (f : Fitting) (n : ℕ) → walk (bookFits book) table p ≡ RuleFits f n → Wrote (rewritten book f)
+  pub rule-writes : (f : Fitting) (rule : Rule) → ruleAt book (f .number) ≡ some rule → ((x : ℕ) → x < rule .vars → IsBody (f .bodies x))
+      → (p : Row) → IsBody p → (u : Row) → rewritten book p f ≡ some u → Wrote u
+  unfolding rewritten
+  rule-writes f rule e b p i u q =
+      let r = right-writes f rule e b in
+      let o = aside-is (rootArguments (leftIn rule)) p i in
+      let v = write (f .bodies) 0 (treeOf (rule .right)) in
+      let more = asideArguments (rootArguments (leftIn rule)) p in
+      let w : withAside (write (f .bodies) 0 (treeOf (rule .right))) (asideArguments (rootArguments (leftIn rule)) p) ≡ some u = rw e at q in
+      record {
+        one = aside-wide v more u w ∙ r .one;
+        few = aside-few v more u w (r .few) (o .few);
+        shaped = aside-shaped v more u w (r .shaped) (formed-shaped more (o .formed));
+      }
+
+  pub found-writes : (p : Row) → IsBody p → (f : Fitting) (n : ℕ) → walk (bookFits book) table p ≡ RuleFits f n → (u : Row) → rewritten book p f ≡ some u → Wrote u
   found-writes p i f n e =
       let s : FoundSound (bookFits book) (RuleFits f n) = rw e at (walk-sound (bookFits book) table p i) in
       let r = fits-rule book (f .number) (s .0) (s .2) in
-      rule-writes f (r .0) (r .1) (λ x h. s .3 x (omega (arith, s .1, r .2, h)))
+      rule-writes f (r .0) (r .1) (λ x h. s .3 x (omega (arith, s .1, r .2, h))) p i
 
   -- ---- a step leaves a term
   abbrev LeavesTerm : Stepped → Type 0
@@ -132,11 +149,15 @@ module _ (book : List ℕ) (accepted : checkBook book ≡ Good) (table : List �
   step-leaves : (t : Row) → IsBody t → (s : Sought) → SeekIs (walk (bookFits book) table) t 0 (length (words t)) s → LeavesTerm (stepFound book t s)
   unfolding wholeWithin
   step-leaves t i Nowhere p = tt
-  step-leaves t i (FoundAt at f) p = go (withinLimits (spliced t at (rewritten book f))) refl
+  step-leaves t i (FoundAt at f) p = taken (rewritten book (partAt t at) f) refl
     where
-      go : (b : Bool) → withinLimits (spliced t at (rewritten book f)) ≡ b → LeavesTerm (pick b (Becomes (spliced t at (rewritten book f))) (Refused Over))
-      go true e = spliced-term t i at (p .1 .inside) (rewritten book f) (found-writes (partAt t at) (part-term t i at (p .1 .inside)) f (p .0) (p .1 .here)) e
-      go false e = tt
+      go : (u : Row) → rewritten book (partAt t at) f ≡ some u → (b : Bool) → withinLimits (spliced t at u) ≡ b → LeavesTerm (pick b (Becomes (spliced t at u)) (Refused Over))
+      go u w true e = spliced-term t i at (p .1 .inside) u (found-writes (partAt t at) (part-term t i at (p .1 .inside)) f (p .0) (p .1 .here) u w) e
+      go u w false e = tt
+
+      taken : (o : Option Row) → rewritten book (partAt t at) f ≡ o → LeavesTerm (stepTaken t at (manyAside book (partAt t at) f) o)
+      taken none w = tt
+      taken (some u) w = go u w (withinLimits (spliced t at u)) refl
   step-leaves t i (Broken address) p = tt
 
   pub step-term : (t u : Row) → IsBody t → step book table t ≡ Becomes u → IsBody u
@@ -155,10 +176,13 @@ module _ (book table : List ℕ) where
     rests : a ≡ Done → lowestOffset book table v ≡ Nowhere → EndsAs budget n v a
     used : a ≡ BudgetUsed → n ≡ budget → (at : ℕ) (f : Fitting) → lowestOffset book table v ≡ FoundAt at f → EndsAs budget n v a
 
-  -- how it is refused: a walk met a damaged node before any offset with a rule, or the next step would be over the limits
+  -- how it is refused: a walk met a damaged node before any offset with a rule, what the next step writes cannot take the arguments set aside, or that step
+  -- would be over the limits
   pub data StopsAs (budget n : ℕ) (v : Row) (a : Answer) : Type 0 where
     broken : (address : ℕ) → a ≡ Damaged address → lowestOffset book table v ≡ Broken address → StopsAs budget n v a
-    over : a ≡ Over → n < budget → (at : ℕ) (f : Fitting) → lowestOffset book table v ≡ FoundAt at f → withinLimits (spliced v at (rewritten book f)) ≡ false → StopsAs budget n v a
+    cannot : (at : ℕ) (f : Fitting) → a ≡ CannotTake (manyAside book (partAt v at) f) → n < budget → lowestOffset book table v ≡ FoundAt at f → rewritten book (partAt v at) f ≡ none → StopsAs budget n v a
+    over : a ≡ Over → n < budget → (at : ℕ) (f : Fitting) → lowestOffset book table v ≡ FoundAt at f → (u : Row) → rewritten book (partAt v at) f ≡ some u → withinLimits (spliced v at u) ≡ false
+        → StopsAs budget n v a
 
   abbrev pub RunIs : ℕ → Row → Run → Type 0
   RunIs budget t (Stopped n a) = (v : Row) × StepsTo n t v × (n ≤ budget) × StopsAs budget n v a
@@ -178,11 +202,15 @@ module _ (book table : List ℕ) where
   found-why : (budget : ℕ) (t : Row) (s : Sought) → lowestOffset book table t ≡ s → StepWhy budget t (stepFound book t s)
   unfolding wholeWithin
   found-why budget t Nowhere e = e
-  found-why budget t (FoundAt at f) e = go (withinLimits (spliced t at (rewritten book f))) refl
+  found-why budget t (FoundAt at f) e = taken (rewritten book (partAt t at) f) refl
     where
-      go : (b : Bool) → withinLimits (spliced t at (rewritten book f)) ≡ b → StepWhy budget t (pick b (Becomes (spliced t at (rewritten book f))) (Refused Over))
-      go true q = tt
-      go false q = over refl (omega arith) at f e q
+      go : (u : Row) → rewritten book (partAt t at) f ≡ some u → (b : Bool) → withinLimits (spliced t at u) ≡ b → StepWhy budget t (pick b (Becomes (spliced t at u)) (Refused Over))
+      go u w true q = tt
+      go u w false q = over refl (omega arith) at f e u w q
+
+      taken : (o : Option Row) → rewritten book (partAt t at) f ≡ o → StepWhy budget t (stepTaken t at (manyAside book (partAt t at) f) o)
+      taken none w = cannot at f refl (omega arith) e w
+      taken (some u) w = go u w (withinLimits (spliced t at u)) refl
   found-why budget t (Broken address) e = broken address refl e
 
   step-why : (budget : ℕ) (t : Row) → StepWhy budget t (step book table t)
@@ -195,7 +223,8 @@ module _ (book table : List ℕ) where
 
   stops-more : (budget n : ℕ) (v : Row) (a : Answer) → StopsAs budget n v a → StopsAs (suc budget) (suc n) v a
   stops-more budget n v a (broken address e q) = broken address e q
-  stops-more budget n v a (over e m at f q w) = over e (omega (arith, m)) at f q w
+  stops-more budget n v a (cannot at f e m q w) = cannot at f e (omega (arith, m)) q w
+  stops-more budget n v a (over e m at f q u w z) = over e (omega (arith, m)) at f q u w z
 
   one-step-more : (budget : ℕ) (t u : Row) → step book table t ≡ Becomes u → (r : Run) → RunIs budget u r → RunIs (suc budget) t (oneMore r)
   unfolding StepsTo

@@ -1,4 +1,4 @@
--- What simplifying answers and leaves: document 01's numbers 12, 11, 14, 15, 13, an earlier step's before a later one's; 0 where no rule fits anywhere, 2 where the budget is used and a rule still fits.
+-- What simplifying answers and leaves: document 01's and 02's numbers 12, 11, 14, 18, 15, 13, an earlier step's before a later one's; 0 where no rule fits anywhere, 2 where the budget is used and a rule still fits.
 use Prim.Native.Nat.{ℕ, zero, suc}
 use mathlib.Core.List.{List}
 use lib.Dec.{leb}

@@ -1,15 +1,16 @@
 -- Document 01, "Right sides and simplifying": "A step rewrites at the lowest offset where the walk finds a rule."
 use Prim.Native.Nat.{ℕ, zero, suc}
 use mathlib.Core.List.{List}
+use mathlib.Core.Option.{Option, none, some}
 use lib.ListN.{length}
 use Rattle.term.specs.declared.answer.Answer.{Answer}
-use Rattle.term.specs.declared.answer.Answer.the-variants.{Damaged, Over}
+use Rattle.term.specs.declared.answer.Answer.the-variants.{Damaged, Over, CannotTake}
 use Rattle.term.specs.Word.{pick}
 use Rattle.term.specs.Row.{Row, words}
 use Rattle.fit.specs.Lowest.{Fitting}
 use Rattle.fit.specs.Build.{withinLimits}
 use Rattle.walk.specs.Walk.{Walked, NoneFits, RuleFits, DamagedAt, walk, bookFits}
-use Rattle.steps.specs.Rewrite.{rewritten}
+use Rattle.steps.specs.Rewrite.{manyAside, rewritten}
 use Rattle.steps.specs.Offset.{partAt, spliced}
 
 -- where the walk finds a rule: at no offset; at an offset, with its bodies; a walk before that met a damaged node
@@ -41,9 +42,14 @@ pub data Stepped : Type 0 where
 unfoldable pub wholeWithin : Row → Stepped
 wholeWithin t = pick (withinLimits t) (Becomes t) (Refused Over)
 
+-- what the rule makes of the part stands in its place; refused where that cannot take so many arguments
+abbrev pub stepTaken : Row → ℕ → ℕ → Option Row → Stepped
+stepTaken t at n none = Refused (CannotTake n)
+stepTaken t at n (some u) = wholeWithin (spliced t at u)
+
 abbrev pub stepFound : List ℕ → Row → Sought → Stepped
 stepFound book t Nowhere = Rests
-stepFound book t (FoundAt at f) = wholeWithin (spliced t at (rewritten book f))
+stepFound book t (FoundAt at f) = stepTaken t at (manyAside book (partAt t at) f) (rewritten book (partAt t at) f)
 stepFound book t (Broken address) = Refused (Damaged address)
 
 unfoldable pub step : List ℕ → List ℕ → Row → Stepped

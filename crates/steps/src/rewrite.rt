@@ -30,5 +30,6 @@ pub fn rewrite_root(book: &[u32], tree: &[u32], term: &[u32], out: &mut [u32]) -
         Rewrote::Damaged(at) => Answer::Damaged(at),
         Rewrote::Over => Answer::Over,
         Rewrote::Wrote(n) => give(Answer::Done, &area[..n], out),
+        Rewrote::CannotTake(n) => Answer::CannotTake(n),
     }
 }

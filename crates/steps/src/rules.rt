@@ -6,10 +6,10 @@ ghost use lib.ListN.{length, drop, replicate};
 ghost use Rattle.term.specs.Check.{check, termLimits};
 ghost use Rattle.book.specs.Accept.{accept};
 ghost use Rattle.fit.specs.Build.{startOf};
-ghost use Rattle.walk.specs.told.State.{Parted};
+ghost use Rattle.walk.specs.told.State.{partFrom, Parted};
 ghost use Rattle.walk.specs.told.WithBook.{bookWalk};
 ghost use Rattle.steps.specs.told.Operations.{GoodBook, Cleared, asked, RuleWritten, RewriteTold};
-use crate::right::write_right;
+use crate::aside::write_front;
 use book::accept::Accepted;
 use book::accept::accept_book;
 use book::book::Found;
@@ -19,7 +19,7 @@ use term::answer::Answer;
 use term::check::Checked;
 use term::check::check_term;
 use term::lent::clear;
-use term::renumber::Passed;
+use term::word::count_of;
 use walk::with_book::BookMatch;
 use walk::with_book::walk_book;
 
@@ -28,11 +28,13 @@ pub const BODIES: usize = 65536;
 
 pub const LENGTHS: usize = 16;
 
-// What became of a part: no rule fits, so many words were written, the tree is damaged, or what the rule writes is over the limits.
+// What became of a part: no rule fits, so many words were written, the tree is damaged, what the rule writes cannot take so many arguments set
+// aside, or it is over the limits.
 pub enum Rewrote {
     None,
     Wrote(usize),
     Damaged(usize),
+    CannotTake(u32),
     Over,
 }
 
@@ -49,17 +51,26 @@ pub fn ask(book: &[u32], term: &[u32]) -> Accepted
     }
 }
 
-// Writes the right side of a rule from its bodies.
-fn write_rule(book: &[u32], number: u32, bodies: &[u32], lengths: &[u32], out: &mut [u32]) -> Passed
-    requires { ⌜ length (now lengths) ≡ 16 ⌝ }
-    ensures { λ r. ⌜ RuleWritten (now (book .entry)) number (now (bodies .entry)) (now (lengths .entry)) (now (out .entry)) (now (out .exit)) r ⌝ }
+// Writes the right side of a rule from its bodies, with the arguments that it sets aside of the part that the words begin with.
+fn write_rule(
+    book: &[u32],
+    number: u32,
+    part: &[u32],
+    bodies: &[u32],
+    lengths: &[u32],
+    out: &mut [u32],
+) -> Rewrote
+    requires { ⌜ GoodBook (now book) × Parted (now part) × (0 < length (now part)) × (length (now lengths) ≡ 16) × (length (now out) ≡ 4096) ⌝ }
+    ensures { λ r. ⌜ RuleWritten (now (book .entry)) number (now (part .entry)) (now (bodies .entry)) (now (lengths .entry)) (now (out .exit)) r ⌝ }
 {
     let Found::Rule(sides) = find_rule(book, number) else {
-        return Passed::Stuck;
+        return Rewrote::Over;
     };
+    let left = sides.left;
     let right = sides.right;
     let end = sides.end;
-    write_right(&book[right..end], bodies, lengths, out)
+    let b = count_of(book[left]);
+    write_front(&book[right..end], b, part, bodies, lengths, out)
 }
 
 // Clears the bodies that the lengths tell of, and the lengths. Bodies are mostly far shorter than their room: what none of them used is
@@ -84,19 +95,16 @@ pub fn rewrite_at(
     out: &mut [u32],
 ) -> Rewrote
     requires { ⌜ GoodBook (now book) × Parted (now part) × (0 < length (now part)) × Cleared (now bodies) (now lengths) × (length (now out) ≡ 4096) ⌝ }
-    ensures { λ r. ⌜ RewriteTold (now (book .entry)) (bookWalk (now (book .entry)) (now (tree .entry)) (now (part .entry))) (now (out .exit)) r
+    ensures { λ r. ⌜ RewriteTold (now (book .entry)) (partFrom (now (part .entry)) 0) (bookWalk (now (book .entry)) (now (tree .entry)) (now (part .entry))) (now (out .exit)) r
         × Cleared (now (bodies .exit)) (now (lengths .exit)) ⌝ }
 {
     match walk_book(book, tree, part, bodies, lengths) {
         BookMatch::None => Rewrote::None,
         BookMatch::Damaged(at) => Rewrote::Damaged(at),
         BookMatch::Rule(number) => {
-            let wrote = write_rule(book, number, bodies, lengths, out);
+            let wrote = write_rule(book, number, part, bodies, lengths, out);
             clear_used(bodies, lengths);
-            match wrote {
-                Passed::Done(n) => Rewrote::Wrote(n),
-                Passed::Stuck => Rewrote::Over,
-            }
+            wrote
         }
     }
 }

@@ -25,11 +25,12 @@ use term::check::check_term;
 use term::lent::clear;
 use term::renumber::Passed;
 
-// Where the walk finds a rule: at no offset; at the lowest, with so many words written; there, but what it writes is over the limits; a damaged
-// node before that.
+// Where the walk finds a rule: at no offset; at the lowest, with so many words written; there, but what it writes cannot take so many arguments
+// set aside, or is over the limits; a damaged node before that.
 pub enum Lowest {
     Nowhere,
     At(usize, usize),
+    CannotTake(u32),
     Over,
     Broken(usize),
 }
@@ -64,7 +65,7 @@ fn seek(
     new: &mut [u32],
 ) -> Lowest
     requires { ⌜ GoodBook (now book) × IsTerm (now term) × Cleared (now bodies) (now lengths) × (length (now new) ≡ 4096) ⌝ }
-    ensures { λ r. ⌜ LowestTold (now (book .entry)) (lowestOffset (now (book .entry)) (now (tree .entry)) (treeOf (now (term .entry)))) (now (new .exit)) r
+    ensures { λ r. ⌜ LowestTold (now (book .entry)) (treeOf (now (term .entry))) (lowestOffset (now (book .entry)) (now (tree .entry)) (treeOf (now (term .entry)))) (now (new .exit)) r
         × Cleared (now (bodies .exit)) (now (lengths .exit)) ⌝ }
 {
     let mut at: usize = 0;
@@ -81,6 +82,9 @@ fn seek(
             }
             Rewrote::Damaged(address) => {
                 return Lowest::Broken(address);
+            }
+            Rewrote::CannotTake(n) => {
+                return Lowest::CannotTake(n);
             }
         }
     }
@@ -120,6 +124,7 @@ fn one_step(
         Lowest::At(at, n) => replace(area, size, at, &mut new, n),
         Lowest::Over => Moved::Refused(Answer::Over),
         Lowest::Broken(address) => Moved::Refused(Answer::Damaged(address)),
+        Lowest::CannotTake(n) => Moved::Refused(Answer::CannotTake(n)),
     }
 }
 
@@ -156,6 +161,11 @@ fn last_look(
             answer: Answer::Damaged(address),
             steps: steps,
             size: 0,
+        },
+        Lowest::CannotTake(_) => Ran {
+            answer: Answer::BudgetUsed,
+            steps: steps,
+            size: term.len(),
         },
     }
 }

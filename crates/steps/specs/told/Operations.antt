@@ -3,24 +3,30 @@ use Prim.Native.Nat.{ℕ, _+_, _≤_}
 use mathlib.Core.Path.{_≡_}
 use mathlib.Core.Bool.{true, false}
 use mathlib.Core.List.{List}
-use mathlib.Core.Option.{some}
+use mathlib.Core.Option.{Option, none, some}
 use lib.Dec.{leb}
 use lib.ListN.{length, take, replicate}
 use Rattle.term.specs.declared.check.Checked.{Checked}
 use Rattle.term.specs.declared.check.Checked.the-variants.{Good, Bad}
 use Rattle.term.specs.declared.answer.Answer.{Answer}
 use Rattle.term.specs.declared.answer.Answer.the-variants as answer
-use Rattle.term.specs.declared.renumber.Passed.{Passed}
 use Rattle.term.specs.Word.{pick}
-use Rattle.term.specs.Row.{Row, words}
+use Rattle.term.specs.Row.{Row, width, words, nesting}
 use Rattle.term.specs.Check.{check, termLimits}
 use Rattle.book.specs.declared.accept.Accepted.{Accepted}
 use Rattle.book.specs.declared.accept.Accepted.the-variants as accepted
 use Rattle.book.specs.Book.{Rule, checkBook, ruleAt}
+use Rattle.fit.specs.Match.{leftIn}
+use Rattle.fit.specs.Front.{rootArguments, aside, asideArguments}
 use Rattle.fit.specs.Build.{withinLimits}
 use Rattle.walk.specs.Walk.{Walked, NoneFits, RuleFits, DamagedAt}
-use Rattle.steps.specs.Rewrite.{rewritten}
-use Rattle.steps.specs.told.RightWalk.{RightWritten}
+use Rattle.walk.specs.told.State.{partFrom}
+use Rattle.steps.specs.Right.{write}
+use Rattle.steps.specs.Arguments.{withAside}
+use Rattle.steps.specs.Offset.{partAt}
+use Rattle.steps.specs.Rewrite.{manyAside, rewritten}
+use Rattle.steps.specs.told.Told.{RightRow}
+use Rattle.steps.specs.told.RightWalk.{BodiesStand}
 use Rattle.steps.specs.Step.{Sought, Nowhere, FoundAt, Broken, lowestOffset, Stepped, Rests, Becomes, Refused}
 use Rattle.steps.specs.Simplify.{Run, Stopped, Ended, budgetUsed}
 use Rattle.steps.specs.declared.rules.Rewrote.{Rewrote}
@@ -45,22 +51,35 @@ asked (accepted.Refused a) c = accepted.Refused a
 abbrev pub Cleared : List ℕ → List ℕ → Type 0
 Cleared bodies lengths = (bodies ≡ replicate 65536 0) × (lengths ≡ replicate 16 0)
 
--- the right side of the rule of this number, where the book has it
-unfoldable pub RuleWritten : List ℕ → ℕ → List ℕ → List ℕ → List ℕ → List ℕ → Passed → Type 0
-RuleWritten book number bodies lengths out done r = (rule : Rule) → ruleAt book number ≡ some rule → RightWritten (rule .right) bodies lengths out done r
-
 -- ---- what a rule writes stands in front, or it is over the limits
 abbrev pub RowWritten : Row → List ℕ → Rewrote → Type 0
 RowWritten u out rewrote.None = ⊥
 RowWritten u out (rewrote.Wrote n) = (withinLimits u ≡ true) × (n ≡ length (words u)) × (n ≤ 4096) × (take n out ≡ words u)
 RowWritten u out (rewrote.Damaged at) = ⊥
+RowWritten u out (rewrote.CannotTake n) = ⊥
 RowWritten u out rewrote.Over = withinLimits u ≡ false
 
+-- the same with so many arguments set aside, which it may not be able to take
+abbrev pub TakenTold : ℕ → Option Row → List ℕ → Rewrote → Type 0
+TakenTold n none out r = r ≡ rewrote.CannotTake n
+TakenTold n (some u) out r = RowWritten u out r
+
+-- a right side with bodies for its variables, and the arguments after the first b of the part that the words begin with
+unfoldable pub FrontWritten : List ℕ → ℕ → List ℕ → List ℕ → List ℕ → List ℕ → Rewrote → Type 0
+FrontWritten right b part bodies lengths out r =
+    (vars : ℕ) (k : ℕ → ℕ) (bs : ℕ → Row) (p : Row) → RightRow vars k 0 p → width p ≡ 1 → nesting p ≤ 16 → words p ≡ right → BodiesStand vars bodies lengths bs
+    → TakenTold (aside b (partFrom part 0)) (withAside (write bs 0 p) (asideArguments b (partFrom part 0))) out r
+
+-- the right side of the rule of this number, where the book has it
+unfoldable pub RuleWritten : List ℕ → ℕ → List ℕ → List ℕ → List ℕ → List ℕ → Rewrote → Type 0
+RuleWritten book number part bodies lengths out r =
+    (rule : Rule) → ruleAt book number ≡ some rule → FrontWritten (rule .right) (rootArguments (leftIn rule)) part bodies lengths out r
+
 -- a part rewritten, by how its walk ended
-unfoldable pub RewriteTold : List ℕ → Walked → List ℕ → Rewrote → Type 0
-RewriteTold book NoneFits out r = r ≡ rewrote.None
-RewriteTold book (RuleFits f n) out r = RowWritten (rewritten book f) out r
-RewriteTold book (DamagedAt at) out r = r ≡ rewrote.Damaged at
+unfoldable pub RewriteTold : List ℕ → Row → Walked → List ℕ → Rewrote → Type 0
+RewriteTold book t NoneFits out r = r ≡ rewrote.None
+RewriteTold book t (RuleFits f n) out r = TakenTold (manyAside book t f) (rewritten book t f) out r
+RewriteTold book t (DamagedAt at) out r = r ≡ rewrote.Damaged at
 
 -- ---- an answer with words into a lent slice
 abbrev pub givenAnswer : ℕ → List ℕ → Answer → Answer
@@ -70,13 +89,18 @@ givenAnswer room ws a = pick (leb (length ws) room) a answer.Short
 abbrev pub FoundTold : ℕ → Row → List ℕ → Lowest → Type 0
 FoundTold at u new lowest.Nowhere = ⊥
 FoundTold at u new (lowest.At a n) = (a ≡ at) × (withinLimits u ≡ true) × (n ≡ length (words u)) × (n ≤ 4096) × (take n new ≡ words u)
+FoundTold at u new (lowest.CannotTake n) = ⊥
 FoundTold at u new lowest.Over = withinLimits u ≡ false
 FoundTold at u new (lowest.Broken address) = ⊥
 
-unfoldable pub LowestTold : List ℕ → Sought → List ℕ → Lowest → Type 0
-LowestTold book Nowhere new r = r ≡ lowest.Nowhere
-LowestTold book (FoundAt at f) new r = FoundTold at (rewritten book f) new r
-LowestTold book (Broken address) new r = r ≡ lowest.Broken address
+abbrev pub FoundTaken : ℕ → ℕ → Option Row → List ℕ → Lowest → Type 0
+FoundTaken at n none new r = r ≡ lowest.CannotTake n
+FoundTaken at n (some u) new r = FoundTold at u new r
+
+unfoldable pub LowestTold : List ℕ → Row → Sought → List ℕ → Lowest → Type 0
+LowestTold book t Nowhere new r = r ≡ lowest.Nowhere
+LowestTold book t (FoundAt at f) new r = FoundTaken at (manyAside book (partAt t at) f) (rewritten book (partAt t at) f) new r
+LowestTold book t (Broken address) new r = r ≡ lowest.Broken address
 
 -- ---- a part replaced in the work area, and the whole checked
 abbrev pub ReplaceTold : List ℕ → List ℕ → Moved → Type 0

@@ -5,9 +5,10 @@ use mathlib.Core.Path.{refl, sym, ap, _∙_}
 use Prim.Native.Nat.{ℕ}
 use lib.ListN.{length, replicate}
 use lib.Seq.{length-take-le}
+use Rattle.walk.specs.told.State.{partFrom}
 use Rattle.walk.specs.told.WithBook.{bookWalk}
 use Rattle.steps.proofs.Asked.{good-book, is-term}
-use Rattle.steps.proofs.Roots.{term-parted, term-some, root-none, root-damaged, root-over, root-few, root-wrote, root-refused, root-walked}
+use Rattle.steps.proofs.Roots.{term-parted, term-some, root-none, root-damaged, root-cannot, root-over, root-few, root-wrote, root-refused, root-walked}
 use Rattle.steps.proofs.Came.{rewrite-root-came}
 use Rattle.steps.proofs.rewrite.rewrite_root.Statement.{statement}
 use Rattle.steps.proofs.rewrite.rewrite_root.Tie as tie
@@ -25,12 +26,12 @@ rewrite-at-requires c κs =
 array-share-prefix-area : tie.Need-array-share-prefix-area
 array-share-prefix-area c =
     let far = c .before .before .before .before .before .before in
-    let s = c .before .before .before .before .before .before .before .before .before .before .before .before .before .before .before .before .before .before .before .before .before .args in let few = root-few (s .book .now) 0 _ (s .out .now) (bookWalk (s .book .now) (s .tree .now) (s .term .now)) _ (rw (c .before .n .given .1) at (far .rewrite-at .ensures .0)) in omega (arith, few, far .rewrite-at .kept .1 .1 .1 .1 .1 .0)
+    let s = c .before .before .before .before .before .before .before .before .before .before .before .before .before .before .before .before .before .before .before .before .before .args in let few = root-few (s .book .now) (partFrom (s .term .now) 0) 0 _ (s .out .now) (bookWalk (s .book .now) (s .tree .now) (s .term .now)) _ (rw (c .before .n .given .1) at (far .rewrite-at .ensures .0)) in omega (arith, few, far .rewrite-at .kept .1 .1 .1 .1 .1 .0)
 
 slice-aggregate-give : tie.Need-slice-aggregate-give
 slice-aggregate-give c =
     let far = c .before .before .before .before .before .before .before in
-    let s = c .before .before .before .before .before .before .before .before .before .before .before .before .before .before .before .before .before .before .before .before .before .before .args in let few = root-few (s .book .now) 0 _ (s .out .now) (bookWalk (s .book .now) (s .tree .now) (s .term .now)) _ (rw (c .before .before .n .given .1) at (far .rewrite-at .ensures .0)) in sym (length-take-le _ _ (omega (arith, few, far .rewrite-at .kept .1 .1 .1 .1 .1 .0)))
+    let s = c .before .before .before .before .before .before .before .before .before .before .before .before .before .before .before .before .before .before .before .before .before .before .args in let few = root-few (s .book .now) (partFrom (s .term .now) 0) 0 _ (s .out .now) (bookWalk (s .book .now) (s .tree .now) (s .term .now)) _ (rw (c .before .before .n .given .1) at (far .rewrite-at .ensures .0)) in sym (length-take-le _ _ (omega (arith, few, far .rewrite-at .kept .1 .1 .1 .1 .1 .0)))
 
 give-requires : tie.Need-give-requires
 give-requires c κs =
@@ -38,16 +39,19 @@ give-requires c κs =
     far .clear .ensures ∙ ap (λ (n : ℕ). replicate n 0) (sym (far .clear .kept .0))
 
 returns-2 : tie.Need-returns-2
-returns-2 c = let s = c .before .before .before .before .before .before .before .before .before .before .before .before .before .before .before .before .before .before .before .before .args in rewrite-root-came (s .book .now) (s .tree .now) (s .term .now) (length (s .out .now)) _ _ (root-walked (length (s .out .now)) (s .book .now) (s .tree .now) (s .term .now) (sym (c .before .before .before .before .before .before .before .before .before .before .before .ask .ensures) ∙ c .before .before .before .before .before .before .before .before .before .enum-told .given .1) _ _ (root-none (s .book .now) (length (s .out .now)) _ _ (c .before .before .before .before .before .before .before .before .before .before .before .before .before .before .clear .ensures) (bookWalk (s .book .now) (s .tree .now) (s .term .now)) (rw (c .enum-told2 .given .1) at (c .before .before .before .before .before .rewrite-at .ensures .0))))
+returns-2 c = let s = c .before .before .before .before .before .before .before .before .before .before .before .before .before .before .before .before .before .before .before .before .args in rewrite-root-came (s .book .now) (s .tree .now) (s .term .now) (length (s .out .now)) _ _ (root-walked (length (s .out .now)) (s .book .now) (s .tree .now) (s .term .now) (sym (c .before .before .before .before .before .before .before .before .before .before .before .ask .ensures) ∙ c .before .before .before .before .before .before .before .before .before .enum-told .given .1) _ _ (root-none (s .book .now) (partFrom (s .term .now) 0) (length (s .out .now)) _ _ (c .before .before .before .before .before .before .before .before .before .before .before .before .before .before .clear .ensures) (bookWalk (s .book .now) (s .tree .now) (s .term .now)) (rw (c .enum-told2 .given .1) at (c .before .before .before .before .before .rewrite-at .ensures .0))))
 
 returns-3 : tie.Need-returns-3
-returns-3 c = let s = c .before .before .before .before .before .before .before .before .before .before .before .before .before .before .before .before .before .before .before .before .before .args in rewrite-root-came (s .book .now) (s .tree .now) (s .term .now) (length (s .out .now)) _ _ (root-walked (length (s .out .now)) (s .book .now) (s .tree .now) (s .term .now) (sym (c .before .before .before .before .before .before .before .before .before .before .before .before .ask .ensures) ∙ c .before .before .before .before .before .before .before .before .before .before .enum-told .given .1) _ _ (root-damaged (s .book .now) (length (s .out .now)) _ _ (c .before .before .before .before .before .before .before .before .before .before .before .before .before .before .before .clear .ensures) (bookWalk (s .book .now) (s .tree .now) (s .term .now)) _ (rw (c .before .at .given .1) at (c .before .before .before .before .before .before .rewrite-at .ensures .0))))
+returns-3 c = let s = c .before .before .before .before .before .before .before .before .before .before .before .before .before .before .before .before .before .before .before .before .before .args in rewrite-root-came (s .book .now) (s .tree .now) (s .term .now) (length (s .out .now)) _ _ (root-walked (length (s .out .now)) (s .book .now) (s .tree .now) (s .term .now) (sym (c .before .before .before .before .before .before .before .before .before .before .before .before .ask .ensures) ∙ c .before .before .before .before .before .before .before .before .before .before .enum-told .given .1) _ _ (root-damaged (s .book .now) (partFrom (s .term .now) 0) (length (s .out .now)) _ _ (c .before .before .before .before .before .before .before .before .before .before .before .before .before .before .before .clear .ensures) (bookWalk (s .book .now) (s .tree .now) (s .term .now)) _ (rw (c .before .at .given .1) at (c .before .before .before .before .before .before .rewrite-at .ensures .0))))
 
 returns-4 : tie.Need-returns-4
-returns-4 c = let s = c .before .before .before .before .before .before .before .before .before .before .before .before .before .before .before .before .before .before .before .before .args in rewrite-root-came (s .book .now) (s .tree .now) (s .term .now) (length (s .out .now)) _ _ (root-walked (length (s .out .now)) (s .book .now) (s .tree .now) (s .term .now) (sym (c .before .before .before .before .before .before .before .before .before .before .before .ask .ensures) ∙ c .before .before .before .before .before .before .before .before .before .enum-told .given .1) _ _ (root-over (s .book .now) (length (s .out .now)) _ _ (c .before .before .before .before .before .before .before .before .before .before .before .before .before .before .clear .ensures) (bookWalk (s .book .now) (s .tree .now) (s .term .now)) (rw (c .enum-told3 .given .1) at (c .before .before .before .before .before .rewrite-at .ensures .0))))
+returns-4 c = let s = c .before .before .before .before .before .before .before .before .before .before .before .before .before .before .before .before .before .before .before .before .args in rewrite-root-came (s .book .now) (s .tree .now) (s .term .now) (length (s .out .now)) _ _ (root-walked (length (s .out .now)) (s .book .now) (s .tree .now) (s .term .now) (sym (c .before .before .before .before .before .before .before .before .before .before .before .ask .ensures) ∙ c .before .before .before .before .before .before .before .before .before .enum-told .given .1) _ _ (root-over (s .book .now) (partFrom (s .term .now) 0) (length (s .out .now)) _ _ (c .before .before .before .before .before .before .before .before .before .before .before .before .before .before .clear .ensures) (bookWalk (s .book .now) (s .tree .now) (s .term .now)) (rw (c .enum-told3 .given .1) at (c .before .before .before .before .before .rewrite-at .ensures .0))))
 
 returns-5 : tie.Need-returns-5
-returns-5 c = let s = c .before .before .before .before .before .before .before .before .before .before .before .before .before .before .before .before .before .before .before .before .before .before .before .before .before .before .args in rewrite-root-came (s .book .now) (s .tree .now) (s .term .now) (length (s .out .now)) _ _ (root-walked (length (s .out .now)) (s .book .now) (s .tree .now) (s .term .now) (sym (c .before .before .before .before .before .before .before .before .before .before .before .before .before .before .before .before .before .ask .ensures) ∙ c .before .before .before .before .before .before .before .before .before .before .before .before .before .before .before .enum-told .given .1) _ _ (root-wrote (s .book .now) (length (s .out .now)) _ _ (bookWalk (s .book .now) (s .tree .now) (s .term .now)) _ (rw (c .before .before .before .before .before .before .n .given .1) at (c .before .before .before .before .before .before .before .before .before .before .before .rewrite-at .ensures .0)) _ (rw (c .before .before .before .before .before .before .before .before .before .before .before .before .before .before .before .before .before .before .before .before .clear .kept .0) at (c .before .before .give .ensures))))
+returns-5 c = let s = c .before .before .before .before .before .before .before .before .before .before .before .before .before .before .before .before .before .before .before .before .before .before .before .before .before .before .args in rewrite-root-came (s .book .now) (s .tree .now) (s .term .now) (length (s .out .now)) _ _ (root-walked (length (s .out .now)) (s .book .now) (s .tree .now) (s .term .now) (sym (c .before .before .before .before .before .before .before .before .before .before .before .before .before .before .before .before .before .ask .ensures) ∙ c .before .before .before .before .before .before .before .before .before .before .before .before .before .before .before .enum-told .given .1) _ _ (root-wrote (s .book .now) (partFrom (s .term .now) 0) (length (s .out .now)) _ _ (bookWalk (s .book .now) (s .tree .now) (s .term .now)) _ (rw (c .before .before .before .before .before .before .n .given .1) at (c .before .before .before .before .before .before .before .before .before .before .before .rewrite-at .ensures .0)) _ (rw (c .before .before .before .before .before .before .before .before .before .before .before .before .before .before .before .before .before .before .before .before .clear .kept .0) at (c .before .before .give .ensures))))
+
+returns-6 : tie.Need-returns-6
+returns-6 c = let s = c .before .before .before .before .before .before .before .before .before .before .before .before .before .before .before .before .before .before .before .before .before .args in rewrite-root-came (s .book .now) (s .tree .now) (s .term .now) (length (s .out .now)) _ _ (root-walked (length (s .out .now)) (s .book .now) (s .tree .now) (s .term .now) (sym (c .before .before .before .before .before .before .before .before .before .before .before .before .ask .ensures) ∙ c .before .before .before .before .before .before .before .before .before .before .enum-told .given .1) _ _ (root-cannot (s .book .now) (partFrom (s .term .now) 0) (length (s .out .now)) _ _ (c .before .before .before .before .before .before .before .before .before .before .before .before .before .before .before .clear .ensures) (bookWalk (s .book .now) (s .tree .now) (s .term .now)) _ (rw (c .before .n2 .given .1) at (c .before .before .before .before .before .before .rewrite-at .ensures .0))))
 
 pub rewrite-root-spec : {M : Type 1} → statement M
 rewrite-root-spec =
@@ -71,10 +75,13 @@ rewrite-root-spec =
     slice-aggregate-give
     give-requires
     (λ c. search needs)
+    (λ c. search needs)
     returns-2
     (λ c. search needs)
     returns-3
     (λ c. search needs)
     returns-4
     (λ c. search needs)
-    returns-5)
+    returns-5
+    (λ c. search needs)
+    returns-6)

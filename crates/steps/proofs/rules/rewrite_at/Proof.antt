@@ -2,49 +2,46 @@
 use borrow.Author.Needs.{needs}
 use mathlib.Core.Path.{ap, _∙_}
 use lib.ListN.{length}
-use Rattle.term.specs.declared.renumber.Passed.the-variants as step
+use Rattle.walk.specs.told.State.{partFrom}
 use Rattle.walk.specs.told.WithBook.{bookWalk}
 use Rattle.steps.proofs.Rewrites.{zeros-long, used-cleared, at-none, at-damaged, at-rule}
 use Rattle.steps.proofs.rules.rewrite_at.Statement.{statement}
 use Rattle.steps.proofs.rules.rewrite_at.Tie as tie
 
 walk-book-requires : tie.Need-walk-book-requires
-walk-book-requires c κs =
-    let start = c .before .before .before .before .before .before .before .before in
-    (start .pre .1, start .pre .2, start .pre .3 .0, start .pre .3 .1)
+walk-book-requires c κs = let start = c .before .before .before .before .before .before .before .before in (start .pre .1, start .pre .2, start .pre .3 .0, start .pre .3 .1)
 
 returns : tie.Need-returns
-returns c = let s = c .before .before .before .before .before .before .before .before .before .before .before .before .before .before .before .args in at-none (s .book .now) (bookWalk (s .book .now) (s .tree .now) (s .part .now)) _ _ _ (rw (c .enum-told .given .1) at (c .before .before .before .before .before .before .walk-book .ensures))
+returns c =
+    let s = c .before .before .before .before .before .before .before .before .before .before .before .before .before .before .before .args in
+    at-none (s .book .now) (partFrom (s .part .now) 0) (bookWalk (s .book .now) (s .tree .now) (s .part .now)) _ _ _ (rw (c .enum-told .given .1) at (c .before .before .before .before .before .before .walk-book .ensures))
 
 returns-2 : tie.Need-returns-2
-returns-2 c = let s = c .before .before .before .before .before .before .before .before .before .before .before .before .before .before .before .before .args in at-damaged (s .book .now) (bookWalk (s .book .now) (s .tree .now) (s .part .now)) _ _ _ _ (rw (c .before .at .given .1) at (c .before .before .before .before .before .before .before .walk-book .ensures))
+returns-2 c =
+    let s = c .before .before .before .before .before .before .before .before .before .before .before .before .before .before .before .before .args in
+    at-damaged (s .book .now) (partFrom (s .part .now) 0) (bookWalk (s .book .now) (s .tree .now) (s .part .now)) _ _ _ _ (rw (c .before .at .given .1) at (c .before .before .before .before .before .before .before .walk-book .ensures))
 
 write-rule-requires : tie.Need-write-rule-requires
-write-rule-requires c κs = c .before .before .before .before .before .before .before .before .before .before .walk-book .kept .1 .1 .1 .1 .0 ∙ ap length (c .before .before .before .before .before .before .before .before .before .before .before .before .before .before .before .before .before .before .before .pre .3 .1)
+write-rule-requires c κs =
+    let start = c .before .before .before .before .before .before .before .before .before .before .before .before .before .before .before .before .before .before .before in
+    (start .pre .0, start .pre .1, start .pre .2, c .before .before .before .before .before .before .before .before .before .before .walk-book .kept .1 .1 .1 .1 .0 ∙ ap length (start .pre .3 .1), start .pre .4)
 
 clear-used-requires : tie.Need-clear-used-requires
 clear-used-requires c κs =
     let start = c .before .before .before .before .before .before .before .before .before .before .before .before .before .before .before .before .before .before .before .before .before .before .before .before in
-    let far = c .before .before .before .before .before .before .before .before .before .before .before .before .before .before .before in
-    let s = start .args in (far .walk-book .kept .1 .1 .1 .1 .0 ∙ ap length (start .pre .3 .1), used-cleared (bookWalk (s .book .now) (s .tree .now) (s .part .now)) _ _ _ (rw (c .before .before .before .before .before .before .before .before .before .number .given .1) at (far .walk-book .ensures)) (far .walk-book .kept .1 .1 .1 .0 ∙ zeros-long _ 65536 (start .pre .3 .0)) (far .walk-book .kept .1 .1 .1 .1 .0 ∙ ap length (start .pre .3 .1)) .0)
+    let walked = c .before .before .before .before .before .before .before .before .before .before .before .before .before .before .before in
+    let s = start .args in
+    let sixteen = walked .walk-book .kept .1 .1 .1 .1 .0 ∙ ap length (start .pre .3 .1) in
+    (sixteen, used-cleared (bookWalk (s .book .now) (s .tree .now) (s .part .now)) _ _ _ (rw (c .before .before .before .before .before .before .before .before .before .number .given .1) at (walked .walk-book .ensures)) (walked .walk-book .kept .1 .1 .1 .0 ∙ zeros-long _ 65536 (start .pre .3 .0)) sixteen .0)
 
 returns-3 : tie.Need-returns-3
 returns-3 c =
-    let start = c .before .before .before .before .before .before .before .before .before .before .before .before .before .before .before .before .before .before .before .before .before .before .before .before .before .before .before .before .before .before .before .before in
-    let far = c .before .before .before .before .before .before .before .before .before .before .before .before .before .before .before .before .before .before .before .before .before .before .before in
-    let far2 = c .before .before .before .before .before .before .before .before .before .before .before .before .before .before .before .before .before in
-    let far3 = c .before .before .before .before .before .before .before in
+    let start = c .before .before .before .before .before .before .before .before .before .before .before .before .before .before .before .before .before .before .before .before .before .before .before .before .before .before .before .before .before in
+    let walked = c .before .before .before .before .before .before .before .before .before .before .before .before .before .before .before .before .before .before .before .before in
     let s = start .args in
-    (at-rule (s .book .now) (start .pre .0) (s .tree .now) (s .part .now) (start .pre .1) (start .pre .2) _ _ _ (rw (far2 .number .given .1) at (far .walk-book .ensures)) (s .out .now) _ (start .pre .4) (step.Done _) (rw (c .before .wrote .given .1) at (c .before .before .before .before .before .before .before .before .before .before .before .before .write-rule .ensures)), (far3 .clear-used .ensures .0 ∙ used-cleared (bookWalk (s .book .now) (s .tree .now) (s .part .now)) _ _ _ (rw (far2 .number .given .1) at (far .walk-book .ensures)) (far .walk-book .kept .1 .1 .1 .0 ∙ zeros-long _ 65536 (start .pre .3 .0)) (far .walk-book .kept .1 .1 .1 .1 .0 ∙ ap length (start .pre .3 .1)) .1, far3 .clear-used .ensures .1))
-
-returns-4 : tie.Need-returns-4
-returns-4 c =
-    let start = c .before .before .before .before .before .before .before .before .before .before .before .before .before .before .before .before .before .before .before .before .before .before .before .before .before .before .before .before .before .before .before in
-    let far = c .before .before .before .before .before .before .before .before .before .before .before .before .before .before .before .before .before .before .before .before .before .before in
-    let far2 = c .before .before .before .before .before .before .before .before .before .before .before .before .before .before .before .before in
-    let far3 = c .before .before .before .before .before .before in
-    let s = start .args in
-    (at-rule (s .book .now) (start .pre .0) (s .tree .now) (s .part .now) (start .pre .1) (start .pre .2) _ _ _ (rw (far2 .number .given .1) at (far .walk-book .ensures)) (s .out .now) _ (start .pre .4) step.Stuck (rw (c .enum-told2 .given .1) at (c .before .before .before .before .before .before .before .before .before .before .before .write-rule .ensures)), (far3 .clear-used .ensures .0 ∙ used-cleared (bookWalk (s .book .now) (s .tree .now) (s .part .now)) _ _ _ (rw (far2 .number .given .1) at (far .walk-book .ensures)) (far .walk-book .kept .1 .1 .1 .0 ∙ zeros-long _ 65536 (start .pre .3 .0)) (far .walk-book .kept .1 .1 .1 .1 .0 ∙ ap length (start .pre .3 .1)) .1, far3 .clear-used .ensures .1))
+    let k = rw (c .before .before .before .before .before .before .before .before .before .before .before .before .before .before .number .given .1) at (walked .walk-book .ensures) in
+    let sixteen = walked .walk-book .kept .1 .1 .1 .1 .0 ∙ ap length (start .pre .3 .1) in
+    (at-rule (s .book .now) (start .pre .0) (s .tree .now) (s .part .now) (start .pre .1) (start .pre .2) _ _ _ k _ _ (c .before .before .before .before .before .before .before .before .before .write-rule .ensures), (c .before .before .before .before .clear-used .ensures .0 ∙ used-cleared (bookWalk (s .book .now) (s .tree .now) (s .part .now)) _ _ _ k (walked .walk-book .kept .1 .1 .1 .0 ∙ zeros-long _ 65536 (start .pre .3 .0)) sixteen .1, c .before .before .before .before .clear-used .ensures .1))
 
 pub rewrite-at-spec : {M : Type 1} → statement M
 rewrite-at-spec =
@@ -58,8 +55,6 @@ rewrite-at-spec =
     clear-used-requires
     (λ c. search needs)
     (λ c. search needs)
-    (λ c. search needs)
-    (λ c. search needs)
     returns
     (λ c. search needs)
     (λ c. search needs)
@@ -67,8 +62,4 @@ rewrite-at-spec =
     (λ c. search needs)
     (λ c. search needs)
     (λ c. search needs)
-    returns-3
-    (λ c. search needs)
-    (λ c. search needs)
-    (λ c. search needs)
-    returns-4)
+    returns-3)

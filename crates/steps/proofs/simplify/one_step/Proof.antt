@@ -4,7 +4,7 @@ use native.Mathlib.Omega.{arith}
 use mathlib.Core.Path.{refl, sym}
 use lib.ListN.{take}
 use lib.Seq.{length-take-le}
-use Rattle.steps.proofs.Moves.{move-rests, move-broken, move-over, move-inside, move-replaced}
+use Rattle.steps.proofs.Moves.{move-rests, move-broken, move-cannot, move-over, move-inside, move-replaced}
 use Rattle.steps.proofs.simplify.one_step.Statement.{statement}
 use Rattle.steps.proofs.simplify.one_step.Tie as tie
 
@@ -55,6 +55,12 @@ returns-4 c =
     let far = c .before .before .before .before .before .before .before .before in
     let s = start .args in (move-broken (s .book .now) (start .pre .0) (s .tree .now) (take (s .size) (s .area .now)) (start .pre .3) _ _ _ _ (rw (c .before .address .given .1) at (far .seek .ensures .0)), far .seek .ensures .1)
 
+returns-5 : tie.Need-returns-5
+returns-5 c =
+    let start = c .before .before .before .before .before .before .before .before .before .before .before .before .before .before .before .before .before .before in
+    let far = c .before .before .before .before .before .before .before .before in
+    let s = start .args in (move-cannot (s .book .now) (start .pre .0) (s .tree .now) (take (s .size) (s .area .now)) (start .pre .3) _ _ _ _ (rw (c .before .n .given .1) at (far .seek .ensures .0)), far .seek .ensures .1)
+
 pub one-step-spec : {M : Type 1} → statement M
 one-step-spec =
     tie.close
@@ -72,6 +78,7 @@ one-step-spec =
     (λ c. search needs)
     (λ c. search needs)
     (λ c. search needs)
+    (λ c. search needs)
     returns
     (λ c. search needs)
     (λ c. search needs)
@@ -84,4 +91,8 @@ one-step-spec =
     (λ c. search needs)
     (λ c. search needs)
     (λ c. search needs)
-    returns-4)
+    returns-4
+    (λ c. search needs)
+    (λ c. search needs)
+    (λ c. search needs)
+    returns-5)

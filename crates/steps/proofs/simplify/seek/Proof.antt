@@ -7,7 +7,7 @@ use lib.ListN.{length}
 use Rattle.term.proofs.Laws.{suffix}
 use Rattle.walk.proofs.Laws.{tail-parted}
 use Rattle.steps.specs.told.Operations.{Cleared}
-use Rattle.steps.proofs.Seeks.{Seeking, seek-start, seek-end, seek-more, seek-found, seek-over, seek-broken, some-left}
+use Rattle.steps.proofs.Seeks.{Seeking, seek-start, seek-end, seek-more, seek-found, seek-over, seek-broken, seek-cannot, some-left}
 use Rattle.steps.proofs.simplify.seek.Statement.{statement}
 use Rattle.steps.proofs.simplify.seek.Tie as tie
 
@@ -83,13 +83,22 @@ same-length-9 : tie.Need-same-length-9 Inv-loop μ-loop
 same-length-9 c = c .before .before .before .before .before .before .before .before .before .rewrite-at .kept .1 .1 .1 .1 .1 .0 ∙ c .before .before .before .before .before .before .before .before .before .before .before .before .before .before .before .loop .inv .1 ∙ sym (c .before .before .before .before .before .before .before .before .before .before .before .before .before .before .before .before .before .before .before .before .before .before .pre .3)
 
 same-length-10 : tie.Need-same-length-10 Inv-loop μ-loop
-same-length-10 c = ap length (c .before .loop .inv .2 .0) ∙ sym (ap length (c .before .before .before .before .before .before .before .before .pre .2 .0))
+same-length-10 c = c .before .before .before .before .before .before .before .before .before .rewrite-at .kept .1 .1 .1 .0 ∙ ap length (c .before .before .before .before .before .before .before .before .before .before .before .before .before .before .before .loop .inv .2 .0) ∙ sym (ap length (c .before .before .before .before .before .before .before .before .before .before .before .before .before .before .before .before .before .before .before .before .before .before .pre .2 .0))
 
 same-length-11 : tie.Need-same-length-11 Inv-loop μ-loop
-same-length-11 c = ap length (c .before .loop .inv .2 .1) ∙ sym (ap length (c .before .before .before .before .before .before .before .before .pre .2 .1))
+same-length-11 c = c .before .before .before .before .before .before .before .before .before .rewrite-at .kept .1 .1 .1 .1 .0 ∙ ap length (c .before .before .before .before .before .before .before .before .before .before .before .before .before .before .before .loop .inv .2 .1) ∙ sym (ap length (c .before .before .before .before .before .before .before .before .before .before .before .before .before .before .before .before .before .before .before .before .before .before .pre .2 .1))
 
 same-length-12 : tie.Need-same-length-12 Inv-loop μ-loop
-same-length-12 c = c .before .loop .inv .1 ∙ sym (c .before .before .before .before .before .before .before .before .pre .3)
+same-length-12 c = c .before .before .before .before .before .before .before .before .before .rewrite-at .kept .1 .1 .1 .1 .1 .0 ∙ c .before .before .before .before .before .before .before .before .before .before .before .before .before .before .before .loop .inv .1 ∙ sym (c .before .before .before .before .before .before .before .before .before .before .before .before .before .before .before .before .before .before .before .before .before .before .pre .3)
+
+same-length-13 : tie.Need-same-length-13 Inv-loop μ-loop
+same-length-13 c = ap length (c .before .loop .inv .2 .0) ∙ sym (ap length (c .before .before .before .before .before .before .before .before .pre .2 .0))
+
+same-length-14 : tie.Need-same-length-14 Inv-loop μ-loop
+same-length-14 c = ap length (c .before .loop .inv .2 .1) ∙ sym (ap length (c .before .before .before .before .before .before .before .before .pre .2 .1))
+
+same-length-15 : tie.Need-same-length-15 Inv-loop μ-loop
+same-length-15 c = c .before .loop .inv .1 ∙ sym (c .before .before .before .before .before .before .before .before .pre .3)
 
 returns : tie.Need-returns Inv-loop μ-loop
 returns c =
@@ -114,6 +123,13 @@ returns-3 c =
 
 returns-4 : tie.Need-returns-4 Inv-loop μ-loop
 returns-4 c =
+    let start = c .before .before .before .before .before .before .before .before .before .before .before .before .before .before .before .before .before .before .before .before .before .before in
+    let turn = c .before .before .before .before .before .before .before .before .before .before .before .before .before .before .before in
+    let far = c .before .before .before .before .before .before .before .before .before in
+    let s = start .args in (seek-cannot (s .book .now) (s .tree .now) (s .term .now) (start .pre .1) (turn .loop .at) (c .before .before .before .before .before .before .before .before .before .before .before .before .before .before .loop-test .taken) (turn .loop .inv .3) _ _ (rw (suffix (turn .loop .at) (s .term .now), c .before .n2 .given .1) at (far .rewrite-at .ensures .0)), far .rewrite-at .ensures .1)
+
+returns-5 : tie.Need-returns-5 Inv-loop μ-loop
+returns-5 c =
     let start = c .before .before .before .before .before .before .before .before in
     let s = start .args in (seek-end (s .book .now) (s .tree .now) (s .term .now) (start .pre .1) (c .before .loop .at) (omega (arith, c .loop-test .left)) _ (c .before .loop .inv .3), c .before .loop .inv .2)
 
@@ -148,7 +164,12 @@ seek-spec =
     same-length-8
     same-length-9
     returns-3
+    (λ c. search needs)
     same-length-10
     same-length-11
     same-length-12
-    returns-4)
+    returns-4
+    same-length-13
+    same-length-14
+    same-length-15
+    returns-5)
