@@ -174,10 +174,11 @@ aside-first :
     × (stepped (v 1 ∷ []) (s 1 3 ∷ v 1 ∷ v 1 ∷ v 1 ∷ []) ≡ Refused (CannotTake 2))
     × (stepped (v 65535 ∷ []) (s 1 1 ∷ v 65535 ∷ []) ≡ Refused Over)
     × (stepped (v 1 ∷ []) (s 1 1 ∷ v 1 ∷ []) ≡ Becomes (treeOf (l ∷ v 2 ∷ [])))
-    -- a walk that found it elsewhere counts the root's own children
+    -- the children of a root of another kind are counted as arguments are
+    × (stepped (v 1 ∷ []) (l ∷ v 1 ∷ []) ≡ Becomes (treeOf (l ∷ v 2 ∷ [])))
     × (stepped (v 1 ∷ []) (v 1 ∷ []) ≡ Becomes (treeOf (l ∷ v 2 ∷ [])))
 unfolding word kind rank count ident headOf headWith words width ranks nesting read firsts others _⧺_ check scan settle mayStand position listed goodList inside idBody idTerm renumberHead renumber namedHead named closed toBody toTerm sameWords padded idsOf leftShape rootSymbol rightShape counted oneCount allOccur noOther goodLeft goodRight goodRule ruleOf judge checkBook accept nthRule ruleAt leftOf tree childrenOf isHead bodyHere occurrences closeds firstOf sames constraints treeOf leftIn rootArguments aside asideArguments withArguments largest withinLimits limited buildAnswer buildWords countsOf placeNumbered numberIn childrenFrom marked enter sub below subsUnder subAt headAt lowestOpen isIn among sameConstraint has unstruck constraintsLeft wordsOf wordsLeft size without heads caseRows defaultRows entering holding rowsWithout testOf variablesFrom leafOf casesOf nodeOf compiler.step compileBy compile bookRows bookTree partOf markedPart childParts insideOf enterPart bodyFor leafBody variableWords caseCount long longCases caseHeads layout layoutCases treeWords goTo variablesIn soundVariable soundVariables leafNode isWord caseOf switchNode closedNode sameNode nodeAt nextAt walkBy walkFrom walk countsFit bookFits shifted replaced inBody write takes withAside rewritten rewriteRoot partAt spliced seekRule lowestOffset wholeWithin step simplifyBy simplify simplifyAnswer simplifyWords simplifySteps s l v m simplifyGives bookD
-aside-first = (refl, refl, refl, refl, refl)
+aside-first = (refl, refl, refl, refl, refl, refl)
 
 -- ---- rewriting at the root
 roots-A :
