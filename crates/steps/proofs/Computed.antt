@@ -19,14 +19,15 @@ use Rattle.book.specs.Marked.{s, l, v, m, bookA}
 use Rattle.fit.specs.Left.{leftOf}
 use Rattle.fit.specs.Constraint.{tree, childrenOf, isHead, occurrences, closeds, firstOf, sames, constraints, bodyHere}
 use Rattle.fit.specs.Match.{treeOf, leftIn}
-use Rattle.fit.specs.Front.{rootArguments, aside, asideArguments, withArguments}
+use Rattle.fit.specs.Front.{rootArguments, aside, asideArguments, withArguments, covers}
 use Rattle.fit.specs.Build.{largest, withinLimits, limited, buildAnswer, buildWords}
 use Rattle.tree.specs.Tree.{countsOf}
 use Rattle.tree.specs.Path.{placeNumbered, numberIn, childrenFrom, marked, enter}
 use Rattle.tree.specs.Rows.{sub, below, subsUnder, subAt, headAt, lowestOpen, isIn, among, sameConstraint, has, unstruck, constraintsLeft, wordsOf, wordsLeft, size}
 use Rattle.tree.specs.Compile as compiler
-use Rattle.tree.specs.Compile.{without, heads, caseRows, defaultRows, entering, holding, rowsWithout, testOf, variablesFrom, leafOf, casesOf, nodeOf, compileBy, compile, bookRows, bookTree}
-use Rattle.tree.specs.Find.{partOf, markedPart, childParts, insideOf, enterPart, bodyFor, leafBody}
+use Rattle.tree.specs.Compile.{without, heads, caseRows, defaultRows, entering, holding, rowsWithout, testOf, variablesFrom, leafOf, casesOf, nodeOf, compileBy, compile, bookRows}
+use Rattle.tree.specs.Root.{withoutId, rootSymbols, smallest, countsFrom, headsOf, rootHeads, rootCaseRows, rootCases, rootTree, bookTree}
+use Rattle.tree.specs.Find.{rootCount, partOf, markedPart, childParts, insideOf, enterPart, bodyFor, leafBody}
 use Rattle.tree.specs.Layout.{variableWords, caseCount, long, longCases, caseHeads, layout, layoutCases, treeWords}
 use Rattle.walk.specs.Walk.{goTo, variablesIn, soundVariable, soundVariables, leafNode, isWord, caseOf, switchNode, closedNode, sameNode, nodeAt, nextAt, walkBy, walkFrom, walk, countsFit, bookFits}
 use Rattle.steps.specs.Right.{shifted, replaced, inBody, write}
@@ -58,7 +59,7 @@ right-sides :
     × (wrote (s 9 2 ∷ v 1 ∷ v 2 ∷ []) (m 0 1 ∷ s 7 0 ∷ []) ≡ s 9 2 ∷ s 7 0 ∷ v 1 ∷ [])
     -- a variable in the child of a variable
     × (wrote (s 9 2 ∷ v 1 ∷ v 2 ∷ []) (m 0 1 ∷ m 0 1 ∷ s 7 0 ∷ []) ≡ s 9 2 ∷ s 9 2 ∷ s 7 0 ∷ v 1 ∷ v 1 ∷ [])
-unfolding word kind rank count ident headOf headWith words width ranks nesting read firsts others _⧺_ check scan settle mayStand position listed goodList inside idBody idTerm renumberHead renumber namedHead named closed toBody toTerm sameWords padded idsOf leftShape rootSymbol rightShape counted oneCount allOccur noOther goodLeft goodRight goodRule ruleOf judge checkBook accept nthRule ruleAt leftOf tree childrenOf isHead bodyHere occurrences closeds firstOf sames constraints treeOf leftIn rootArguments aside asideArguments withArguments largest withinLimits limited buildAnswer buildWords countsOf placeNumbered numberIn childrenFrom marked enter sub below subsUnder subAt headAt lowestOpen isIn among sameConstraint has unstruck constraintsLeft wordsOf wordsLeft size without heads caseRows defaultRows entering holding rowsWithout testOf variablesFrom leafOf casesOf nodeOf compiler.step compileBy compile bookRows bookTree partOf markedPart childParts insideOf enterPart bodyFor leafBody variableWords caseCount long longCases caseHeads layout layoutCases treeWords goTo variablesIn soundVariable soundVariables leafNode isWord caseOf switchNode closedNode sameNode nodeAt nextAt walkBy walkFrom walk countsFit bookFits shifted replaced inBody write takes withAside rewritten rewriteRoot partAt spliced seekRule lowestOffset wholeWithin step simplifyBy simplify simplifyAnswer simplifyWords simplifySteps s l v m simplifyGives
+unfolding word kind rank count ident headOf headWith words width ranks nesting read firsts others _⧺_ check scan settle mayStand position listed goodList inside idBody idTerm renumberHead renumber namedHead named closed toBody toTerm sameWords padded idsOf leftShape rootSymbol rightShape counted oneCount allOccur noOther goodLeft goodRight goodRule ruleOf judge checkBook accept nthRule ruleAt leftOf tree childrenOf isHead bodyHere occurrences closeds firstOf sames constraints treeOf leftIn rootArguments aside asideArguments withArguments largest withinLimits limited buildAnswer buildWords countsOf placeNumbered numberIn childrenFrom marked enter sub below subsUnder subAt headAt lowestOpen isIn among sameConstraint has unstruck constraintsLeft wordsOf wordsLeft size without heads caseRows defaultRows entering holding rowsWithout testOf variablesFrom leafOf casesOf nodeOf compiler.step compileBy compile bookRows covers withoutId rootSymbols smallest countsFrom headsOf rootHeads rootCaseRows rootCases rootTree bookTree rootCount partOf markedPart childParts insideOf enterPart bodyFor leafBody variableWords caseCount long longCases caseHeads layout layoutCases treeWords goTo variablesIn soundVariable soundVariables leafNode isWord caseOf switchNode closedNode sameNode nodeAt nextAt walkBy walkFrom walk countsFit bookFits shifted replaced inBody write takes withAside rewritten rewriteRoot partAt spliced seekRule lowestOffset wholeWithin step simplifyBy simplify simplifyAnswer simplifyWords simplifySteps s l v m simplifyGives
 right-sides = (refl, refl, refl, refl, refl, refl, refl, refl)
 
 -- ---- simplifying: the answer, the steps and the words, in a room of six words
@@ -76,13 +77,13 @@ term-1 = s 3 1 ∷ l ∷ s 4 1 ∷ s 4 1 ∷ v 1 ∷ []
 
 -- a tree that knows rule 0 and breaks at an abstraction
 breaks-at-l : List ℕ
-breaks-at-l = 2 ∷ 0 ∷ 2 ∷ l ∷ 11 ∷ s 2 2 ∷ 12 ∷ 10 ∷ 0 ∷ 0 ∷ 0 ∷ 9 ∷ 1 ∷ 0 ∷ 1 ∷ 1 ∷ 0 ∷ []
+breaks-at-l = 2 ∷ 0 ∷ 2 ∷ l ∷ 11 ∷ s 2 2 ∷ 12 ∷ 10 ∷ 0 ∷ 0 ∷ 0 ∷ 9 ∷ 1 ∷ 0 ∷ 1 ∷ 0 ∷ 1 ∷ 0 ∷ []
 
 -- document 01's two terms
 terms-A :
     (simplified 6 bookA (treeWords bookA) 1000 term-0 ≡ says Done 2 (s 7 0 ∷ 0 ∷ 0 ∷ 0 ∷ 0 ∷ 0 ∷ []))
     × (simplified 6 bookA (treeWords bookA) 1000 term-1 ≡ says Done 2 (s 4 1 ∷ s 4 1 ∷ s 3 1 ∷ l ∷ v 1 ∷ 0 ∷ []))
-unfolding word kind rank count ident headOf headWith words width ranks nesting read firsts others _⧺_ check scan settle mayStand position listed goodList inside idBody idTerm renumberHead renumber namedHead named closed toBody toTerm sameWords padded idsOf leftShape rootSymbol rightShape counted oneCount allOccur noOther goodLeft goodRight goodRule ruleOf judge checkBook accept nthRule ruleAt leftOf tree childrenOf isHead bodyHere occurrences closeds firstOf sames constraints treeOf leftIn rootArguments aside asideArguments withArguments largest withinLimits limited buildAnswer buildWords countsOf placeNumbered numberIn childrenFrom marked enter sub below subsUnder subAt headAt lowestOpen isIn among sameConstraint has unstruck constraintsLeft wordsOf wordsLeft size without heads caseRows defaultRows entering holding rowsWithout testOf variablesFrom leafOf casesOf nodeOf compiler.step compileBy compile bookRows bookTree partOf markedPart childParts insideOf enterPart bodyFor leafBody variableWords caseCount long longCases caseHeads layout layoutCases treeWords goTo variablesIn soundVariable soundVariables leafNode isWord caseOf switchNode closedNode sameNode nodeAt nextAt walkBy walkFrom walk countsFit bookFits shifted replaced inBody write takes withAside rewritten rewriteRoot partAt spliced seekRule lowestOffset wholeWithin step simplifyBy simplify simplifyAnswer simplifyWords simplifySteps s l v m bookA term-0 term-1 simplifyGives
+unfolding word kind rank count ident headOf headWith words width ranks nesting read firsts others _⧺_ check scan settle mayStand position listed goodList inside idBody idTerm renumberHead renumber namedHead named closed toBody toTerm sameWords padded idsOf leftShape rootSymbol rightShape counted oneCount allOccur noOther goodLeft goodRight goodRule ruleOf judge checkBook accept nthRule ruleAt leftOf tree childrenOf isHead bodyHere occurrences closeds firstOf sames constraints treeOf leftIn rootArguments aside asideArguments withArguments largest withinLimits limited buildAnswer buildWords countsOf placeNumbered numberIn childrenFrom marked enter sub below subsUnder subAt headAt lowestOpen isIn among sameConstraint has unstruck constraintsLeft wordsOf wordsLeft size without heads caseRows defaultRows entering holding rowsWithout testOf variablesFrom leafOf casesOf nodeOf compiler.step compileBy compile bookRows covers withoutId rootSymbols smallest countsFrom headsOf rootHeads rootCaseRows rootCases rootTree bookTree rootCount partOf markedPart childParts insideOf enterPart bodyFor leafBody variableWords caseCount long longCases caseHeads layout layoutCases treeWords goTo variablesIn soundVariable soundVariables leafNode isWord caseOf switchNode closedNode sameNode nodeAt nextAt walkBy walkFrom walk countsFit bookFits shifted replaced inBody write takes withAside rewritten rewriteRoot partAt spliced seekRule lowestOffset wholeWithin step simplifyBy simplify simplifyAnswer simplifyWords simplifySteps s l v m bookA term-0 term-1 simplifyGives
 terms-A = (refl, refl)
 
 -- budgets 0, 1 and exact; room for the result and one word short of it
@@ -94,7 +95,7 @@ budgets-A :
     × (simplified 6 bookA (treeWords bookA) 0 (v 3 ∷ []) ≡ says Done 0 (v 3 ∷ 0 ∷ 0 ∷ 0 ∷ 0 ∷ 0 ∷ []))
     × (simplified 5 bookA (treeWords bookA) 2 term-1 ≡ says Done 2 (s 4 1 ∷ s 4 1 ∷ s 3 1 ∷ l ∷ v 1 ∷ []))
     × (simplified 4 bookA (treeWords bookA) 2 term-1 ≡ says Short 2 (0 ∷ 0 ∷ 0 ∷ 0 ∷ []))
-unfolding word kind rank count ident headOf headWith words width ranks nesting read firsts others _⧺_ check scan settle mayStand position listed goodList inside idBody idTerm renumberHead renumber namedHead named closed toBody toTerm sameWords padded idsOf leftShape rootSymbol rightShape counted oneCount allOccur noOther goodLeft goodRight goodRule ruleOf judge checkBook accept nthRule ruleAt leftOf tree childrenOf isHead bodyHere occurrences closeds firstOf sames constraints treeOf leftIn rootArguments aside asideArguments withArguments largest withinLimits limited buildAnswer buildWords countsOf placeNumbered numberIn childrenFrom marked enter sub below subsUnder subAt headAt lowestOpen isIn among sameConstraint has unstruck constraintsLeft wordsOf wordsLeft size without heads caseRows defaultRows entering holding rowsWithout testOf variablesFrom leafOf casesOf nodeOf compiler.step compileBy compile bookRows bookTree partOf markedPart childParts insideOf enterPart bodyFor leafBody variableWords caseCount long longCases caseHeads layout layoutCases treeWords goTo variablesIn soundVariable soundVariables leafNode isWord caseOf switchNode closedNode sameNode nodeAt nextAt walkBy walkFrom walk countsFit bookFits shifted replaced inBody write takes withAside rewritten rewriteRoot partAt spliced seekRule lowestOffset wholeWithin step simplifyBy simplify simplifyAnswer simplifyWords simplifySteps s l v m bookA term-0 term-1 simplifyGives
+unfolding word kind rank count ident headOf headWith words width ranks nesting read firsts others _⧺_ check scan settle mayStand position listed goodList inside idBody idTerm renumberHead renumber namedHead named closed toBody toTerm sameWords padded idsOf leftShape rootSymbol rightShape counted oneCount allOccur noOther goodLeft goodRight goodRule ruleOf judge checkBook accept nthRule ruleAt leftOf tree childrenOf isHead bodyHere occurrences closeds firstOf sames constraints treeOf leftIn rootArguments aside asideArguments withArguments largest withinLimits limited buildAnswer buildWords countsOf placeNumbered numberIn childrenFrom marked enter sub below subsUnder subAt headAt lowestOpen isIn among sameConstraint has unstruck constraintsLeft wordsOf wordsLeft size without heads caseRows defaultRows entering holding rowsWithout testOf variablesFrom leafOf casesOf nodeOf compiler.step compileBy compile bookRows covers withoutId rootSymbols smallest countsFrom headsOf rootHeads rootCaseRows rootCases rootTree bookTree rootCount partOf markedPart childParts insideOf enterPart bodyFor leafBody variableWords caseCount long longCases caseHeads layout layoutCases treeWords goTo variablesIn soundVariable soundVariables leafNode isWord caseOf switchNode closedNode sameNode nodeAt nextAt walkBy walkFrom walk countsFit bookFits shifted replaced inBody write takes withAside rewritten rewriteRoot partAt spliced seekRule lowestOffset wholeWithin step simplifyBy simplify simplifyAnswer simplifyWords simplifySteps s l v m bookA term-0 term-1 simplifyGives
 budgets-A = (refl, refl, refl, refl, refl, refl, refl)
 
 -- the lowest offset: two parts fit rule 0, and the one that begins first is rewritten, not the one inside it
@@ -102,7 +103,7 @@ lowest-A :
     (simplified 7 bookA (treeWords bookA) 1 (s 2 2 ∷ s 2 2 ∷ v 1 ∷ v 1 ∷ s 2 2 ∷ v 1 ∷ v 1 ∷ []) ≡ says BudgetUsed 1 (s 2 2 ∷ v 1 ∷ v 1 ∷ 0 ∷ 0 ∷ 0 ∷ 0 ∷ []))
     -- and of two side by side the left one
     × (simplified 7 bookA (treeWords bookA) 1 (s 5 2 ∷ s 2 2 ∷ v 1 ∷ v 1 ∷ s 2 2 ∷ v 2 ∷ v 2 ∷ []) ≡ says BudgetUsed 1 (s 5 2 ∷ v 1 ∷ s 2 2 ∷ v 2 ∷ v 2 ∷ 0 ∷ 0 ∷ []))
-unfolding word kind rank count ident headOf headWith words width ranks nesting read firsts others _⧺_ check scan settle mayStand position listed goodList inside idBody idTerm renumberHead renumber namedHead named closed toBody toTerm sameWords padded idsOf leftShape rootSymbol rightShape counted oneCount allOccur noOther goodLeft goodRight goodRule ruleOf judge checkBook accept nthRule ruleAt leftOf tree childrenOf isHead bodyHere occurrences closeds firstOf sames constraints treeOf leftIn rootArguments aside asideArguments withArguments largest withinLimits limited buildAnswer buildWords countsOf placeNumbered numberIn childrenFrom marked enter sub below subsUnder subAt headAt lowestOpen isIn among sameConstraint has unstruck constraintsLeft wordsOf wordsLeft size without heads caseRows defaultRows entering holding rowsWithout testOf variablesFrom leafOf casesOf nodeOf compiler.step compileBy compile bookRows bookTree partOf markedPart childParts insideOf enterPart bodyFor leafBody variableWords caseCount long longCases caseHeads layout layoutCases treeWords goTo variablesIn soundVariable soundVariables leafNode isWord caseOf switchNode closedNode sameNode nodeAt nextAt walkBy walkFrom walk countsFit bookFits shifted replaced inBody write takes withAside rewritten rewriteRoot partAt spliced seekRule lowestOffset wholeWithin step simplifyBy simplify simplifyAnswer simplifyWords simplifySteps s l v m bookA simplifyGives
+unfolding word kind rank count ident headOf headWith words width ranks nesting read firsts others _⧺_ check scan settle mayStand position listed goodList inside idBody idTerm renumberHead renumber namedHead named closed toBody toTerm sameWords padded idsOf leftShape rootSymbol rightShape counted oneCount allOccur noOther goodLeft goodRight goodRule ruleOf judge checkBook accept nthRule ruleAt leftOf tree childrenOf isHead bodyHere occurrences closeds firstOf sames constraints treeOf leftIn rootArguments aside asideArguments withArguments largest withinLimits limited buildAnswer buildWords countsOf placeNumbered numberIn childrenFrom marked enter sub below subsUnder subAt headAt lowestOpen isIn among sameConstraint has unstruck constraintsLeft wordsOf wordsLeft size without heads caseRows defaultRows entering holding rowsWithout testOf variablesFrom leafOf casesOf nodeOf compiler.step compileBy compile bookRows covers withoutId rootSymbols smallest countsFrom headsOf rootHeads rootCaseRows rootCases rootTree bookTree rootCount partOf markedPart childParts insideOf enterPart bodyFor leafBody variableWords caseCount long longCases caseHeads layout layoutCases treeWords goTo variablesIn soundVariable soundVariables leafNode isWord caseOf switchNode closedNode sameNode nodeAt nextAt walkBy walkFrom walk countsFit bookFits shifted replaced inBody write takes withAside rewritten rewriteRoot partAt spliced seekRule lowestOffset wholeWithin step simplifyBy simplify simplifyAnswer simplifyWords simplifySteps s l v m bookA simplifyGives
 lowest-A = (refl, refl)
 
 -- refusals: the book before the term, the term before the tree; steps completed
@@ -115,7 +116,7 @@ refusals :
     -- a tree that is damaged where it meets an abstraction: before a later offset is looked at, and after a step that is completed
     × (simplified 2 bookA breaks-at-l 9 (s 5 2 ∷ l ∷ v 1 ∷ s 2 2 ∷ v 1 ∷ v 1 ∷ []) ≡ says (Damaged 11) 0 (0 ∷ 0 ∷ []))
     × (simplified 2 bookA breaks-at-l 9 (s 5 2 ∷ s 2 2 ∷ v 1 ∷ v 1 ∷ l ∷ v 1 ∷ []) ≡ says (Damaged 11) 1 (0 ∷ 0 ∷ []))
-unfolding word kind rank count ident headOf headWith words width ranks nesting read firsts others _⧺_ check scan settle mayStand position listed goodList inside idBody idTerm renumberHead renumber namedHead named closed toBody toTerm sameWords padded idsOf leftShape rootSymbol rightShape counted oneCount allOccur noOther goodLeft goodRight goodRule ruleOf judge checkBook accept nthRule ruleAt leftOf tree childrenOf isHead bodyHere occurrences closeds firstOf sames constraints treeOf leftIn rootArguments aside asideArguments withArguments largest withinLimits limited buildAnswer buildWords countsOf placeNumbered numberIn childrenFrom marked enter sub below subsUnder subAt headAt lowestOpen isIn among sameConstraint has unstruck constraintsLeft wordsOf wordsLeft size without heads caseRows defaultRows entering holding rowsWithout testOf variablesFrom leafOf casesOf nodeOf compiler.step compileBy compile bookRows bookTree partOf markedPart childParts insideOf enterPart bodyFor leafBody variableWords caseCount long longCases caseHeads layout layoutCases treeWords goTo variablesIn soundVariable soundVariables leafNode isWord caseOf switchNode closedNode sameNode nodeAt nextAt walkBy walkFrom walk countsFit bookFits shifted replaced inBody write takes withAside rewritten rewriteRoot partAt spliced seekRule lowestOffset wholeWithin step simplifyBy simplify simplifyAnswer simplifyWords simplifySteps s l v m bookA breaks-at-l simplifyGives
+unfolding word kind rank count ident headOf headWith words width ranks nesting read firsts others _⧺_ check scan settle mayStand position listed goodList inside idBody idTerm renumberHead renumber namedHead named closed toBody toTerm sameWords padded idsOf leftShape rootSymbol rightShape counted oneCount allOccur noOther goodLeft goodRight goodRule ruleOf judge checkBook accept nthRule ruleAt leftOf tree childrenOf isHead bodyHere occurrences closeds firstOf sames constraints treeOf leftIn rootArguments aside asideArguments withArguments largest withinLimits limited buildAnswer buildWords countsOf placeNumbered numberIn childrenFrom marked enter sub below subsUnder subAt headAt lowestOpen isIn among sameConstraint has unstruck constraintsLeft wordsOf wordsLeft size without heads caseRows defaultRows entering holding rowsWithout testOf variablesFrom leafOf casesOf nodeOf compiler.step compileBy compile bookRows covers withoutId rootSymbols smallest countsFrom headsOf rootHeads rootCaseRows rootCases rootTree bookTree rootCount partOf markedPart childParts insideOf enterPart bodyFor leafBody variableWords caseCount long longCases caseHeads layout layoutCases treeWords goTo variablesIn soundVariable soundVariables leafNode isWord caseOf switchNode closedNode sameNode nodeAt nextAt walkBy walkFrom walk countsFit bookFits shifted replaced inBody write takes withAside rewritten rewriteRoot partAt spliced seekRule lowestOffset wholeWithin step simplifyBy simplify simplifyAnswer simplifyWords simplifySteps s l v m bookA breaks-at-l simplifyGives
 refusals = (refl, refl, refl, refl, refl, refl)
 
 -- the limits are those of the whole term: an id that passes 65,535 under an abstraction of the right side
@@ -126,7 +127,7 @@ limits-D :
     (simplified 3 bookD (treeWords bookD) 1 (s 1 1 ∷ v 65534 ∷ []) ≡ says Done 1 (l ∷ v 65535 ∷ 0 ∷ []))
     × (simplified 3 bookD (treeWords bookD) 1 (s 1 1 ∷ v 65535 ∷ []) ≡ says Over 0 (0 ∷ 0 ∷ 0 ∷ []))
     × (simplified 3 bookD (treeWords bookD) 0 (s 1 1 ∷ v 65535 ∷ []) ≡ says BudgetUsed 0 (s 1 1 ∷ v 65535 ∷ 0 ∷ []))
-unfolding word kind rank count ident headOf headWith words width ranks nesting read firsts others _⧺_ check scan settle mayStand position listed goodList inside idBody idTerm renumberHead renumber namedHead named closed toBody toTerm sameWords padded idsOf leftShape rootSymbol rightShape counted oneCount allOccur noOther goodLeft goodRight goodRule ruleOf judge checkBook accept nthRule ruleAt leftOf tree childrenOf isHead bodyHere occurrences closeds firstOf sames constraints treeOf leftIn rootArguments aside asideArguments withArguments largest withinLimits limited buildAnswer buildWords countsOf placeNumbered numberIn childrenFrom marked enter sub below subsUnder subAt headAt lowestOpen isIn among sameConstraint has unstruck constraintsLeft wordsOf wordsLeft size without heads caseRows defaultRows entering holding rowsWithout testOf variablesFrom leafOf casesOf nodeOf compiler.step compileBy compile bookRows bookTree partOf markedPart childParts insideOf enterPart bodyFor leafBody variableWords caseCount long longCases caseHeads layout layoutCases treeWords goTo variablesIn soundVariable soundVariables leafNode isWord caseOf switchNode closedNode sameNode nodeAt nextAt walkBy walkFrom walk countsFit bookFits shifted replaced inBody write takes withAside rewritten rewriteRoot partAt spliced seekRule lowestOffset wholeWithin step simplifyBy simplify simplifyAnswer simplifyWords simplifySteps s l v m bookD simplifyGives
+unfolding word kind rank count ident headOf headWith words width ranks nesting read firsts others _⧺_ check scan settle mayStand position listed goodList inside idBody idTerm renumberHead renumber namedHead named closed toBody toTerm sameWords padded idsOf leftShape rootSymbol rightShape counted oneCount allOccur noOther goodLeft goodRight goodRule ruleOf judge checkBook accept nthRule ruleAt leftOf tree childrenOf isHead bodyHere occurrences closeds firstOf sames constraints treeOf leftIn rootArguments aside asideArguments withArguments largest withinLimits limited buildAnswer buildWords countsOf placeNumbered numberIn childrenFrom marked enter sub below subsUnder subAt headAt lowestOpen isIn among sameConstraint has unstruck constraintsLeft wordsOf wordsLeft size without heads caseRows defaultRows entering holding rowsWithout testOf variablesFrom leafOf casesOf nodeOf compiler.step compileBy compile bookRows covers withoutId rootSymbols smallest countsFrom headsOf rootHeads rootCaseRows rootCases rootTree bookTree rootCount partOf markedPart childParts insideOf enterPart bodyFor leafBody variableWords caseCount long longCases caseHeads layout layoutCases treeWords goTo variablesIn soundVariable soundVariables leafNode isWord caseOf switchNode closedNode sameNode nodeAt nextAt walkBy walkFrom walk countsFit bookFits shifted replaced inBody write takes withAside rewritten rewriteRoot partAt spliced seekRule lowestOffset wholeWithin step simplifyBy simplify simplifyAnswer simplifyWords simplifySteps s l v m bookD simplifyGives
 limits-D = (refl, refl, refl)
 
 -- and a nesting over 64 of the whole, not of what is written
@@ -140,7 +141,7 @@ under (suc n) ws = l ∷ under n ws
 limits-E :
     (simplified 64 bookE (treeWords bookE) 1 (under 61 (s 1 1 ∷ v 1 ∷ [])) ≡ says Done 1 (under 63 (v 3 ∷ [])))
     × (simplified 1 bookE (treeWords bookE) 1 (under 62 (s 1 1 ∷ v 1 ∷ [])) ≡ says Over 0 (0 ∷ []))
-unfolding word kind rank count ident headOf headWith words width ranks nesting read firsts others _⧺_ check scan settle mayStand position listed goodList inside idBody idTerm renumberHead renumber namedHead named closed toBody toTerm sameWords padded idsOf leftShape rootSymbol rightShape counted oneCount allOccur noOther goodLeft goodRight goodRule ruleOf judge checkBook accept nthRule ruleAt leftOf tree childrenOf isHead bodyHere occurrences closeds firstOf sames constraints treeOf leftIn rootArguments aside asideArguments withArguments largest withinLimits limited buildAnswer buildWords countsOf placeNumbered numberIn childrenFrom marked enter sub below subsUnder subAt headAt lowestOpen isIn among sameConstraint has unstruck constraintsLeft wordsOf wordsLeft size without heads caseRows defaultRows entering holding rowsWithout testOf variablesFrom leafOf casesOf nodeOf compiler.step compileBy compile bookRows bookTree partOf markedPart childParts insideOf enterPart bodyFor leafBody variableWords caseCount long longCases caseHeads layout layoutCases treeWords goTo variablesIn soundVariable soundVariables leafNode isWord caseOf switchNode closedNode sameNode nodeAt nextAt walkBy walkFrom walk countsFit bookFits shifted replaced inBody write takes withAside rewritten rewriteRoot partAt spliced seekRule lowestOffset wholeWithin step simplifyBy simplify simplifyAnswer simplifyWords simplifySteps s l v m bookE under simplifyGives
+unfolding word kind rank count ident headOf headWith words width ranks nesting read firsts others _⧺_ check scan settle mayStand position listed goodList inside idBody idTerm renumberHead renumber namedHead named closed toBody toTerm sameWords padded idsOf leftShape rootSymbol rightShape counted oneCount allOccur noOther goodLeft goodRight goodRule ruleOf judge checkBook accept nthRule ruleAt leftOf tree childrenOf isHead bodyHere occurrences closeds firstOf sames constraints treeOf leftIn rootArguments aside asideArguments withArguments largest withinLimits limited buildAnswer buildWords countsOf placeNumbered numberIn childrenFrom marked enter sub below subsUnder subAt headAt lowestOpen isIn among sameConstraint has unstruck constraintsLeft wordsOf wordsLeft size without heads caseRows defaultRows entering holding rowsWithout testOf variablesFrom leafOf casesOf nodeOf compiler.step compileBy compile bookRows covers withoutId rootSymbols smallest countsFrom headsOf rootHeads rootCaseRows rootCases rootTree bookTree rootCount partOf markedPart childParts insideOf enterPart bodyFor leafBody variableWords caseCount long longCases caseHeads layout layoutCases treeWords goTo variablesIn soundVariable soundVariables leafNode isWord caseOf switchNode closedNode sameNode nodeAt nextAt walkBy walkFrom walk countsFit bookFits shifted replaced inBody write takes withAside rewritten rewriteRoot partAt spliced seekRule lowestOffset wholeWithin step simplifyBy simplify simplifyAnswer simplifyWords simplifySteps s l v m bookE under simplifyGives
 limits-E = (refl, refl)
 
 -- ---- the arguments set aside, those after the first b of a term, at the end of what is written
@@ -161,12 +162,12 @@ asides :
     -- with nothing set aside any root will do
     × (with-aside (v 1 ∷ []) 2 (s 2 2 ∷ v 1 ∷ v 2 ∷ []) ≡ some (v 1 ∷ []))
     × (with-aside (l ∷ s 7 0 ∷ []) 2 (s 2 1 ∷ v 1 ∷ []) ≡ some (l ∷ s 7 0 ∷ []))
-unfolding word kind rank count ident headOf headWith words width ranks nesting read firsts others _⧺_ check scan settle mayStand position listed goodList inside idBody idTerm renumberHead renumber namedHead named closed toBody toTerm sameWords padded idsOf leftShape rootSymbol rightShape counted oneCount allOccur noOther goodLeft goodRight goodRule ruleOf judge checkBook accept nthRule ruleAt leftOf tree childrenOf isHead bodyHere occurrences closeds firstOf sames constraints treeOf leftIn rootArguments aside asideArguments withArguments largest withinLimits limited buildAnswer buildWords countsOf placeNumbered numberIn childrenFrom marked enter sub below subsUnder subAt headAt lowestOpen isIn among sameConstraint has unstruck constraintsLeft wordsOf wordsLeft size without heads caseRows defaultRows entering holding rowsWithout testOf variablesFrom leafOf casesOf nodeOf compiler.step compileBy compile bookRows bookTree partOf markedPart childParts insideOf enterPart bodyFor leafBody variableWords caseCount long longCases caseHeads layout layoutCases treeWords goTo variablesIn soundVariable soundVariables leafNode isWord caseOf switchNode closedNode sameNode nodeAt nextAt walkBy walkFrom walk countsFit bookFits shifted replaced inBody write takes withAside rewritten rewriteRoot partAt spliced seekRule lowestOffset wholeWithin step simplifyBy simplify simplifyAnswer simplifyWords simplifySteps s l v m simplifyGives
+unfolding word kind rank count ident headOf headWith words width ranks nesting read firsts others _⧺_ check scan settle mayStand position listed goodList inside idBody idTerm renumberHead renumber namedHead named closed toBody toTerm sameWords padded idsOf leftShape rootSymbol rightShape counted oneCount allOccur noOther goodLeft goodRight goodRule ruleOf judge checkBook accept nthRule ruleAt leftOf tree childrenOf isHead bodyHere occurrences closeds firstOf sames constraints treeOf leftIn rootArguments aside asideArguments withArguments largest withinLimits limited buildAnswer buildWords countsOf placeNumbered numberIn childrenFrom marked enter sub below subsUnder subAt headAt lowestOpen isIn among sameConstraint has unstruck constraintsLeft wordsOf wordsLeft size without heads caseRows defaultRows entering holding rowsWithout testOf variablesFrom leafOf casesOf nodeOf compiler.step compileBy compile bookRows covers withoutId rootSymbols smallest countsFrom headsOf rootHeads rootCaseRows rootCases rootTree bookTree rootCount partOf markedPart childParts insideOf enterPart bodyFor leafBody variableWords caseCount long longCases caseHeads layout layoutCases treeWords goTo variablesIn soundVariable soundVariables leafNode isWord caseOf switchNode closedNode sameNode nodeAt nextAt walkBy walkFrom walk countsFit bookFits shifted replaced inBody write takes withAside rewritten rewriteRoot partAt spliced seekRule lowestOffset wholeWithin step simplifyBy simplify simplifyAnswer simplifyWords simplifySteps s l v m simplifyGives
 asides = (refl, refl, refl, refl, refl, refl, refl, refl, refl)
 
 -- book D's rule, where a walk found it at the root of a term with more arguments
 abbrev stepped : List ℕ → List ℕ → Stepped
-stepped body ws = stepFound bookD (treeOf ws) (FoundAt 0 (record { number = 0; bodies = one-body body }))
+stepped body ws = stepFound bookD (treeOf ws) (FoundAt 0 (record { number = 0; aside = 0; bodies = one-body body }))
 
 -- what cannot take an argument is said before what is over a limit, and with none set aside it is not asked
 aside-first :
@@ -177,7 +178,7 @@ aside-first :
     -- the children of a root of another kind are counted as arguments are
     × (stepped (v 1 ∷ []) (l ∷ v 1 ∷ []) ≡ Becomes (treeOf (l ∷ v 2 ∷ [])))
     × (stepped (v 1 ∷ []) (v 1 ∷ []) ≡ Becomes (treeOf (l ∷ v 2 ∷ [])))
-unfolding word kind rank count ident headOf headWith words width ranks nesting read firsts others _⧺_ check scan settle mayStand position listed goodList inside idBody idTerm renumberHead renumber namedHead named closed toBody toTerm sameWords padded idsOf leftShape rootSymbol rightShape counted oneCount allOccur noOther goodLeft goodRight goodRule ruleOf judge checkBook accept nthRule ruleAt leftOf tree childrenOf isHead bodyHere occurrences closeds firstOf sames constraints treeOf leftIn rootArguments aside asideArguments withArguments largest withinLimits limited buildAnswer buildWords countsOf placeNumbered numberIn childrenFrom marked enter sub below subsUnder subAt headAt lowestOpen isIn among sameConstraint has unstruck constraintsLeft wordsOf wordsLeft size without heads caseRows defaultRows entering holding rowsWithout testOf variablesFrom leafOf casesOf nodeOf compiler.step compileBy compile bookRows bookTree partOf markedPart childParts insideOf enterPart bodyFor leafBody variableWords caseCount long longCases caseHeads layout layoutCases treeWords goTo variablesIn soundVariable soundVariables leafNode isWord caseOf switchNode closedNode sameNode nodeAt nextAt walkBy walkFrom walk countsFit bookFits shifted replaced inBody write takes withAside rewritten rewriteRoot partAt spliced seekRule lowestOffset wholeWithin step simplifyBy simplify simplifyAnswer simplifyWords simplifySteps s l v m simplifyGives bookD
+unfolding word kind rank count ident headOf headWith words width ranks nesting read firsts others _⧺_ check scan settle mayStand position listed goodList inside idBody idTerm renumberHead renumber namedHead named closed toBody toTerm sameWords padded idsOf leftShape rootSymbol rightShape counted oneCount allOccur noOther goodLeft goodRight goodRule ruleOf judge checkBook accept nthRule ruleAt leftOf tree childrenOf isHead bodyHere occurrences closeds firstOf sames constraints treeOf leftIn rootArguments aside asideArguments withArguments largest withinLimits limited buildAnswer buildWords countsOf placeNumbered numberIn childrenFrom marked enter sub below subsUnder subAt headAt lowestOpen isIn among sameConstraint has unstruck constraintsLeft wordsOf wordsLeft size without heads caseRows defaultRows entering holding rowsWithout testOf variablesFrom leafOf casesOf nodeOf compiler.step compileBy compile bookRows covers withoutId rootSymbols smallest countsFrom headsOf rootHeads rootCaseRows rootCases rootTree bookTree rootCount partOf markedPart childParts insideOf enterPart bodyFor leafBody variableWords caseCount long longCases caseHeads layout layoutCases treeWords goTo variablesIn soundVariable soundVariables leafNode isWord caseOf switchNode closedNode sameNode nodeAt nextAt walkBy walkFrom walk countsFit bookFits shifted replaced inBody write takes withAside rewritten rewriteRoot partAt spliced seekRule lowestOffset wholeWithin step simplifyBy simplify simplifyAnswer simplifyWords simplifySteps s l v m simplifyGives bookD
 aside-first = (refl, refl, refl, refl, refl, refl)
 
 -- ---- rewriting at the root
@@ -193,5 +194,5 @@ roots-A :
     × (rootAnswer 3 bookA (5 ∷ []) (s 3 1 ∷ l ∷ []) ≡ BadTerm 2)
     × (rootAnswer 3 [] (5 ∷ []) (s 3 1 ∷ l ∷ []) ≡ BadBook 0)
     × (rootAnswer 3 bookD (treeWords bookD) (s 1 1 ∷ v 65535 ∷ []) ≡ Over)
-unfolding word kind rank count ident headOf headWith words width ranks nesting read firsts others _⧺_ check scan settle mayStand position listed goodList inside idBody idTerm renumberHead renumber namedHead named closed toBody toTerm sameWords padded idsOf leftShape rootSymbol rightShape counted oneCount allOccur noOther goodLeft goodRight goodRule ruleOf judge checkBook accept nthRule ruleAt leftOf tree childrenOf isHead bodyHere occurrences closeds firstOf sames constraints treeOf leftIn rootArguments aside asideArguments withArguments largest withinLimits limited buildAnswer buildWords countsOf placeNumbered numberIn childrenFrom marked enter sub below subsUnder subAt headAt lowestOpen isIn among sameConstraint has unstruck constraintsLeft wordsOf wordsLeft size without heads caseRows defaultRows entering holding rowsWithout testOf variablesFrom leafOf casesOf nodeOf compiler.step compileBy compile bookRows bookTree partOf markedPart childParts insideOf enterPart bodyFor leafBody variableWords caseCount long longCases caseHeads layout layoutCases treeWords goTo variablesIn soundVariable soundVariables leafNode isWord caseOf switchNode closedNode sameNode nodeAt nextAt walkBy walkFrom walk countsFit bookFits shifted replaced inBody write takes withAside rewritten rewriteRoot partAt spliced seekRule lowestOffset wholeWithin step simplifyBy simplify simplifyAnswer simplifyWords simplifySteps s l v m bookA bookD simplifyGives
+unfolding word kind rank count ident headOf headWith words width ranks nesting read firsts others _⧺_ check scan settle mayStand position listed goodList inside idBody idTerm renumberHead renumber namedHead named closed toBody toTerm sameWords padded idsOf leftShape rootSymbol rightShape counted oneCount allOccur noOther goodLeft goodRight goodRule ruleOf judge checkBook accept nthRule ruleAt leftOf tree childrenOf isHead bodyHere occurrences closeds firstOf sames constraints treeOf leftIn rootArguments aside asideArguments withArguments largest withinLimits limited buildAnswer buildWords countsOf placeNumbered numberIn childrenFrom marked enter sub below subsUnder subAt headAt lowestOpen isIn among sameConstraint has unstruck constraintsLeft wordsOf wordsLeft size without heads caseRows defaultRows entering holding rowsWithout testOf variablesFrom leafOf casesOf nodeOf compiler.step compileBy compile bookRows covers withoutId rootSymbols smallest countsFrom headsOf rootHeads rootCaseRows rootCases rootTree bookTree rootCount partOf markedPart childParts insideOf enterPart bodyFor leafBody variableWords caseCount long longCases caseHeads layout layoutCases treeWords goTo variablesIn soundVariable soundVariables leafNode isWord caseOf switchNode closedNode sameNode nodeAt nextAt walkBy walkFrom walk countsFit bookFits shifted replaced inBody write takes withAside rewritten rewriteRoot partAt spliced seekRule lowestOffset wholeWithin step simplifyBy simplify simplifyAnswer simplifyWords simplifySteps s l v m bookA bookD simplifyGives
 roots-A = (refl, refl, refl, refl, refl, refl, refl, refl, refl, refl)

@@ -17,10 +17,10 @@ use Rattle.term.proofs.Laws.{never, tree-good}
 use Rattle.book.specs.Book.{checkBook}
 use Rattle.book.proofs.Laws.{good-accepted}
 use Rattle.fit.specs.Fit.{IsBody}
-use Rattle.fit.specs.Lowest.{Fitting, lowest}
+use Rattle.fit.specs.Lowest.{Fitting, lowestFront}
 use Rattle.fit.specs.Build.{withinLimits}
-use Rattle.fit.proofs.Laws.{term-is-body, body-is-term, tree-of, LowestIs, book-lowest}
-use Rattle.tree.specs.Compile.{bookTree}
+use Rattle.fit.proofs.Laws.{term-is-body, body-is-term, tree-of, LowestFrontIs, book-lowest-front}
+use Rattle.tree.specs.Root.{bookTree}
 use Rattle.tree.proofs.Laws.{Lies, varsIn}
 use Rattle.walk.specs.Walk.{NoneFits, RuleFits, DamagedAt, walk, bookFits}
 use Rattle.walk.proofs.Laws.{walkedOf, begun-with}
@@ -31,9 +31,9 @@ use Rattle.steps.specs.Simplify.{Run, Stopped, Ended, simplifyBy, simpli
 use Rattle.steps.proofs.Steps.{SeekIs, lowest-offset-is, part-term, step-term, StepsTo, EndsAs, rests, used, StopsAs, broken, cannot, over, RunIs, run-is, steps-term}
 
 module _ (book : List ℕ) where
-  -- the lowest of the book's rules for which some bodies, of all there could be, turn its left side into the tree at an offset, with these bodies; none only where there is none
+  -- the lowest of the book's rules for which some bodies, of all there could be, turn its left side into the tree at an offset without the arguments set aside, with their number and these bodies; none only where there is none
   abbrev pub FitsAt : Row → ℕ → Option Fitting → Type 0
-  FitsAt t at o = LowestIs book 0 (getD book 0 0) (partAt t at) o
+  FitsAt t at o = LowestFrontIs book 0 (getD book 0 0) (partAt t at) o
 
   -- the lowest offset at which some rule fits, and the lowest rule that fits there
   abbrev pub FirstFit : Row → Sought → Type 0
@@ -92,13 +92,13 @@ module _ (book : List ℕ) where
 -- ---- a table that begins with an accepted book's tree, whatever follows it
 module _ (book : List ℕ) (accepted : checkBook book ≡ Good) (table : List ℕ) (short : length table ≤ 16384) (lies : Lies table 0 (bookTree book)) where
   abbrev best : Row → Option Fitting
-  best p = lowest book 0 (getD book 0 0) p
+  best p = lowestFront book 0 (getD book 0 0) p
 
   looks : (p : Row) → IsBody p → walk (bookFits book) table p ≡ walkedOf (varsIn book) (best p)
   looks p i = begun-with book accepted p (i .within .formed) (i .one) table short lies
 
-  best-is : (p : Row) → IsBody p → LowestIs book 0 (getD book 0 0) p (best p)
-  best-is p i = book-lowest book accepted (words p) (body-is-term p i)
+  best-is : (p : Row) → IsBody p → LowestFrontIs book 0 (getD book 0 0) p (best p)
+  best-is p i = book-lowest-front book accepted (words p) (body-is-term p i)
 
   -- ---- what a walk says is what fits
   none-of : (o : Option Fitting) → walkedOf (varsIn book) o ≡ NoneFits → o ≡ none
@@ -195,6 +195,6 @@ module _ (book : List ℕ) (accepted : checkBook book ≡ Good) (table : List �
         (run-of budget (term .tree) (term-is-body ws term) (simplifyBy book table budget (term .tree)) (run-is book table budget (term .tree)))
 
     -- rewriting at the root with the compiled tree: by the lowest rule that fits
-    pub compiled-root : rewriteRoot book table ws ≡ walkedRoot book (term .tree) (walkedOf (varsIn book) (lowest book 0 (getD book 0 0) (term .tree)))
+    pub compiled-root : rewriteRoot book table ws ≡ walkedRoot book (term .tree) (walkedOf (varsIn book) (lowestFront book 0 (getD book 0 0) (term .tree)))
     unfolding rewriteRoot
     compiled-root = rw (good-accepted book accepted, tree-good termLimits ws term, tree-of termLimits ws term) (ap (walkedRoot book (term .tree)) (looks (term .tree) (term-is-body ws term)))

@@ -25,6 +25,7 @@ use Rattle.fit.specs.Front.{rootArguments}
 use Rattle.fit.specs.Build.{startOf, wordsAt}
 use Rattle.fit.proofs.Laws.{tree-of, left-in, left-of-symbol, root-arguments, bodies-none, bodies-more, lengths-none, lengths-more, start-none, start-more, words-at-are}
 use Rattle.walk.specs.declared.with_book.BookMatch.the-variants as found
+use Rattle.tree.specs.Find.{rootCount}
 use Rattle.walk.specs.Walk.{Walked, RuleFits, bookFits}
 use Rattle.walk.specs.told.State.{partFrom, Parted}
 use Rattle.walk.specs.told.WithBook.{bookWalk, BookWalked}
@@ -229,11 +230,11 @@ module _ (book : List ℕ) where
         let low : nesting (treeOf (rule .right)) ≤ 16 = rw t (right .low) in
         rw e (w rule e (rule .vars) (parametersOf (rule .left)) (f .bodies) (treeOf (rule .right)) (a .0) (a .1) low (ap words t ∙ sym (right .same)) stand)
 
-    found-told : (f : Fitting) (n : ℕ) → FoundSound (bookFits book) (RuleFits f n) → (bodies lengths : List ℕ) → bodies ≡ bodyList (f .bodies) 0 n ++ replicate (65536 - length (bodyList (f .bodies) 0 n)) 0
+    found-told : (f : Fitting) (n : ℕ) → FoundSound (bookFits book (rootCount (partFrom ws 0))) (RuleFits f n) → (bodies lengths : List ℕ) → bodies ≡ bodyList (f .bodies) 0 n ++ replicate (65536 - length (bodyList (f .bodies) 0 n)) 0
         → lengths ≡ lengthList (f .bodies) 0 n ++ replicate (16 - n) 0 → (out : List ℕ) (r : Rewrote) → RuleWritten book (f .number) ws bodies lengths out r
         → TakenTold (manyAside book (partFrom ws 0) f) (rewritten book (partFrom ws 0) f) out r
     found-told f n fs bodies lengths b l out r w =
-        let q = fits-rule book (f .number) (fs .0) (fs .2) in
+        let q = fits-rule book (rootCount (partFrom ws 0)) (record { rule = f .number; aside = f .aside; variables = fs .0 }) (fs .2) in
         rule-told f n (q .0) (q .1) (sym (fs .1) ∙ q .2) (fs .3) bodies lengths b l out r w
 
     pub at-rule : (number : ℕ) (bodies lengths : List ℕ) → BookWalked (bookWalk book table ws) (found.Rule number) bodies lengths → (out : List ℕ)
@@ -243,7 +244,7 @@ module _ (book : List ℕ) where
         let q = walked-rule (bookWalk book table ws) number bodies lengths k in
         go (bookWalk book table ws) (walk-sound (bookFits book) table (partFrom ws 0) (parted-body ws parted some-words)) (q .0) (q .1) (q .2) (q .3) (q .4) (q .5)
       where
-        go : (v : Walked) → FoundSound (bookFits book) v → (f : Fitting) (n : ℕ) → v ≡ RuleFits f n → number ≡ f .number
+        go : (v : Walked) → FoundSound (bookFits book (rootCount (partFrom ws 0))) v → (f : Fitting) (n : ℕ) → v ≡ RuleFits f n → number ≡ f .number
             → bodies ≡ bodyList (f .bodies) 0 n ++ replicate (65536 - length (bodyList (f .bodies) 0 n)) 0 → lengths ≡ lengthList (f .bodies) 0 n ++ replicate (16 - n) 0
             → RewriteTold book (partFrom ws 0) v out r
         go v s f n e y b l = rw e (found-told f n (rw e at s) bodies lengths b l out r (rw y at w))

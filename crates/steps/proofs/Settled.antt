@@ -18,10 +18,9 @@ use Rattle.term.proofs.Laws.{never}
 use Rattle.book.specs.Book.{Rule, checkBook, ruleAt}
 use Rattle.fit.specs.Fit.{IsBody}
 use Rattle.fit.specs.Match.{treeOf, leftIn}
-use Rattle.fit.specs.Lowest.{Fitting}
-use Rattle.fit.specs.Front.{asideO}
+use Rattle.fit.specs.Lowest.{Fitting, asideO}
 use Rattle.fit.specs.Build.{withinLimits}
-use Rattle.fit.proofs.Laws.{unique, accepted-good, LowestIs, LowestFits, lowest-none, lowest-some}
+use Rattle.fit.proofs.Laws.{front-unique, accepted-good, LowestFrontIs, LowestFrontFits}
 use Rattle.steps.specs.Right.{replaced, inBody, writtenTree, write}
 use Rattle.steps.specs.told.Told.{RightHead, RightRow}
 use Rattle.steps.specs.Arguments.{withAside}
@@ -61,7 +60,7 @@ equal-numbers n m a b = go (ltb n m) (ltb m n) refl refl
 
 module _ (book : List ℕ) (accepted : checkBook book ≡ Good) where
   -- ---- the lowest rule that fits a term, and its bodies, are the only ones
-  module _ (p : Row) (i : IsBody p) (f g : Fitting) (a : LowestFits book 0 (getD book 0 0) p f) (c : LowestFits book 0 (getD book 0 0) p g) where
+  module _ (p : Row) (i : IsBody p) (f g : Fitting) (a : LowestFrontFits book 0 (getD book 0 0) p f) (c : LowestFrontFits book 0 (getD book 0 0) p g) where
     same-number : f .number ≡ g .number
     same-number =
         equal-numbers (f .number) (g .number)
@@ -73,7 +72,7 @@ module _ (book : List ℕ) (accepted : checkBook book ≡ Good) where
 
     same-bodies : (x : ℕ) → x < a .rule .vars → f .bodies x ≡ g .bodies x
     same-bodies x h =
-        unique (a .rule .vars) (leftIn (a .rule)) (accepted-good book accepted (f .number) (a .rule) (a .found)) p (i .within) (i .one) (f .bodies) (g .bodies) (a .fits)
+        front-unique (a .rule .vars) (leftIn (a .rule)) (accepted-good book accepted (f .number) (a .rule) (a .found)) p i (f .bodies) (g .bodies) (a .fits)
         (rw same-rule (c .fits)) x h
 
     same-right : write (f .bodies) 0 (rightIn (ruleAt book (f .number))) ≡ write (g .bodies) 0 (rightIn (ruleAt book (g .number)))
@@ -92,10 +91,9 @@ module _ (book : List ℕ) (accepted : checkBook book ≡ Good) where
     same-aside = ap (λ (n : ℕ). asideO (ruleAt book n) p) same-number
 
   -- ---- the lowest offset is the only one
-  fits-none : (p : Row) (f : Fitting) → LowestIs book 0 (getD book 0 0) p (some f) → LowestIs book 0 (getD book 0 0) p none → ⊥
+  fits-none : (p : Row) (f : Fitting) → LowestFrontFits book 0 (getD book 0 0) p f → LowestFrontIs book 0 (getD book 0 0) p none → ⊥
   fits-none p f a n =
-      let l = lowest-some book 0 (getD book 0 0) p f a in
-      lowest-none book 0 (getD book 0 0) p n (f .number) (omega arith) (l .below) (l .rule) (l .found) (f .bodies) (l .fits)
+      n (f .number) (omega arith) (a .below) (a .rule) (a .found) (f .bodies) (a .fits)
 
   nowhere-found : (t : Row) (at : ℕ) (f : Fitting) → FirstFit book t Nowhere → FirstFit book t (FoundAt at f) → ⊥
   nowhere-found t at f n a = fits-none (partAt t at) f (a .1) (n at (a .0))
@@ -104,19 +102,19 @@ module _ (book : List ℕ) (accepted : checkBook book ≡ Good) where
     same-offset : m ≡ n
     same-offset = equal-numbers m n (λ l. fits-none (partAt t m) f (a .1) (c .2 m l)) (λ l. fits-none (partAt t n) g (c .1) (a .2 n l))
 
-    at-one : LowestIs book 0 (getD book 0 0) (partAt t m) (some g)
+    at-one : LowestFrontFits book 0 (getD book 0 0) (partAt t m) g
     at-one = rw same-offset (c .1)
 
     pub same-made : rewritten book (partAt t m) f ≡ rewritten book (partAt t n) g
     same-made =
         same-written (partAt t m) (part-term t i m (a .0)) f g
-        (lowest-some book 0 (getD book 0 0) (partAt t m) f (a .1)) (lowest-some book 0 (getD book 0 0) (partAt t m) g at-one)
+        (a .1) at-one
         ∙ ap (λ (k : ℕ). rewritten book (partAt t k) g) same-offset
 
     pub same-many : manyAside book (partAt t m) f ≡ manyAside book (partAt t n) g
     same-many =
         same-aside (partAt t m) (part-term t i m (a .0)) f g
-        (lowest-some book 0 (getD book 0 0) (partAt t m) f (a .1)) (lowest-some book 0 (getD book 0 0) (partAt t m) g at-one)
+        (a .1) at-one
         ∙ ap (λ (k : ℕ). manyAside book (partAt t k) g) same-offset
 
     pub same-spliced : (u v : Row) → rewritten book (partAt t m) f ≡ some u → rewritten book (partAt t n) g ≡ some v → spliced t m u ≡ spliced t n v
@@ -129,7 +127,7 @@ module _ (book : List ℕ) (accepted : checkBook book ≡ Good) where
 
   outcome-term : (t u : Row) → IsBody t → OneStep book t u → IsBody u
   outcome-term t u i s =
-      let l = lowest-some book 0 (getD book 0 0) (partAt t (s .at)) (s .fitting) (s .first .1) in
+      let l = s .first .1 in
       rw (s .is)
       (spliced-term book accepted book t i (s .at) (s .first .0) (s .new)
       (rule-writes book accepted book (s .fitting) (l .rule) (l .found) (λ x h. l .fits .bodies x h) (partAt t (s .at)) (part-term t i (s .at) (s .first .0)) (s .new) (s .writes))

@@ -19,6 +19,7 @@ use Rattle.fit.specs.Lowest.{Fitting}
 use Rattle.fit.specs.Match.{treeOf, leftIn}
 use Rattle.fit.specs.Front.{rootArguments, asideArguments}
 use Rattle.fit.specs.Build.{withinLimits}
+use Rattle.tree.specs.Find.{rootCount}
 use Rattle.walk.specs.Walk.{Walked, NoneFits, RuleFits, DamagedAt, walk, bookFits}
 use Rattle.walk.proofs.Laws.{FoundSound, walk-sound, fits-rule}
 use Rattle.steps.specs.Right.{write}
@@ -127,8 +128,8 @@ module _ (book : List ℕ) (accepted : checkBook book ≡ Good) (table : List �
 
   pub found-writes : (p : Row) → IsBody p → (f : Fitting) (n : ℕ) → walk (bookFits book) table p ≡ RuleFits f n → (u : Row) → rewritten book p f ≡ some u → Wrote u
   found-writes p i f n e =
-      let s : FoundSound (bookFits book) (RuleFits f n) = rw e at (walk-sound (bookFits book) table p i) in
-      let r = fits-rule book (f .number) (s .0) (s .2) in
+      let s : FoundSound (bookFits book (rootCount p)) (RuleFits f n) = rw e at (walk-sound (bookFits book) table p i) in
+      let r = fits-rule book (rootCount p) (record { rule = f .number; aside = f .aside; variables = s .0 }) (s .2) in
       rule-writes f (r .0) (r .1) (λ x h. s .3 x (omega (arith, s .1, r .2, h))) p i
 
   -- ---- a step leaves a term

@@ -14,8 +14,8 @@ use Rattle.book.specs.declared.accept.Accepted.the-variants.{Sound, Refused}
 use Rattle.book.specs.Accept.{accept}
 use Rattle.book.specs.Book.{Rule, ruleAt}
 use Rattle.fit.specs.Match.{treeOf, leftIn}
-use Rattle.fit.specs.Lowest.{Fitting}
-use Rattle.fit.specs.Front.{rootArguments, asideArguments, asideO}
+use Rattle.fit.specs.Lowest.{Fitting, asideO}
+use Rattle.fit.specs.Front.{rootArguments, asideArguments}
 use Rattle.fit.specs.Build.{Built, refused, limited, buildAnswer, buildWords}
 use Rattle.walk.specs.Walk.{Walked, NoneFits, RuleFits, DamagedAt, walk, bookFits}
 use Rattle.steps.specs.Right.{write}
