@@ -50,6 +50,7 @@ module _ (fixed nums marks : List ℕ) (limit count slot at m n : ℕ) (out : Li
               within = (c .within .0, f .high);
               older = c .older;
               newer = omega (arith, c .newer, f .low);
+              inner = c .inner;
               known = c .known;
               unmarked-place = c .unmarked-place;
               book = c .book;

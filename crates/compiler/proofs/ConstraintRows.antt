@@ -52,7 +52,7 @@ or-false false = refl
 -- ---- THE LAWS of the rows that have a constraint
 module _ (book fixed nums marks : List ℕ) (count : ℕ) (path : OnPath) (s : Stands book fixed nums marks count path) where
   pub rows-without : (id : ℕ) (c : Constraint)
-      → ((r : ℕ) (rule : Rule) → r < 64 → isFree marks r ≡ true → ruleAt book r ≡ some rule → rowHas fixed nums marks id r ≡ has c (constraintsLeft path (rowOfRule r rule)))
+      → ((r : ℕ) (rule : Rule) → r < 64 → isFree marks r ≡ true → ruleAt book r ≡ some rule → rowHas fixed nums marks id r ≡ has c (constraintsLeft path (rowOfRule marks r rule)))
       → (m : ℕ) (after : List ℕ) → (m ≡ 0 → ⊥) → Changed (struckRows (rowHas fixed nums marks id) m) marks after → rowsLeft book after 0 64 ≡ rowsWithout c path (rowsLeft book marks 0 64)
   rows-without id c e m after z h =
       rows-kept book (rowHas fixed nums marks id) (λ row. not (has c (constraintsLeft path row))) m marks after h z (λ r rule l f i. ap not (sym (e r rule l f i))) 64 0 (omega arith)
@@ -69,7 +69,7 @@ module _ (book fixed nums marks : List ℕ) (count : ℕ) (path : OnPath) (s : S
   spot : (k : ℕ) (o : Occurrence) → SpotIn k o spots → SpotIs fixed nums (path .uncovered) (r * 64) (r * 64 + 64) k o
   spot = row-spot book fixed nums marks count path s r rule low free is
 
-  has-either : (c : Constraint) → has c (constraintsLeft path (rowOfRule r rule)) ≡ has c (leftBy closedAt (closedLeft fixed marks) spots) || has c (leftBy (sameOf all) (sameLeft fixed marks) spots)
+  has-either : (c : Constraint) → has c (constraintsLeft path (rowOfRule marks r rule)) ≡ has c (leftBy closedAt (closedLeft fixed marks) spots) || has c (leftBy (sameOf all) (sameLeft fixed marks) spots)
   has-either c =
       ap (has c) (constraints-left book fixed nums marks count path s r rule low free is)
       ∙ has-join c (leftBy closedAt (closedLeft fixed marks) spots) (leftBy (sameOf all) (sameLeft fixed marks) spots)
@@ -85,7 +85,7 @@ module _ (book fixed nums marks : List ℕ) (count : ℕ) (path : OnPath) (s : S
         rw (lt-ltb (4160 + k) 8256 (omega arith))
         (ap₂ _&&_ (closed-agrees book fixed nums marks count path s r rule low free is j h) (ap (sameName fixed nums (4160 + k)) z ∙ same-closed-name fixed nums k (r * 64 + j) l))
 
-    pub row-has-closed : k < 4096 → rowHas fixed nums marks (4160 + k) r ≡ has (closedAt o) (constraintsLeft path (rowOfRule r rule))
+    pub row-has-closed : k < 4096 → rowHas fixed nums marks (4160 + k) r ≡ has (closedAt o) (constraintsLeft path (rowOfRule marks r rule))
     unfolding rowHas
     row-has-closed l =
         row-some book fixed nums marks count path s r rule low free is (λ j. leftSame fixed nums marks (4160 + k) (kindFrom (4160 + k) + r * 64 + j)) (λ j. closedLeft fixed marks j && sameClosed fixed nums k j)
@@ -112,7 +112,7 @@ module _ (book fixed nums marks : List ℕ) (count : ℕ) (path : OnPath) (s : S
         rw (le-ltb (8256 + k) 8256 (omega arith))
         (ap₂ _&&_ (same-agrees book fixed nums marks count path s r rule low free is j h) (ap (sameName fixed nums (8256 + k)) z ∙ same-same-name fixed nums k (r * 64 + j)))
 
-    pub row-has-same : rowHas fixed nums marks (8256 + k) r ≡ has (sameAt f o) (constraintsLeft path (rowOfRule r rule))
+    pub row-has-same : rowHas fixed nums marks (8256 + k) r ≡ has (sameAt f o) (constraintsLeft path (rowOfRule marks r rule))
     unfolding rowHas
     row-has-same =
         row-some book fixed nums marks count path s r rule low free is (λ j. leftSame fixed nums marks (8256 + k) (kindFrom (8256 + k) + r * 64 + j)) (λ j. sameLeft fixed marks j && sameSame fixed nums k j)

@@ -2,7 +2,7 @@
 use mathlib.Core.Path.{_≡_, refl, sym, ap, _∙_}
 use mathlib.Core.Bool.{Bool, true, false}
 use mathlib.Core.List.{List, [], _∷_}
-use mathlib.Core.Option.{none, some}
+use mathlib.Core.Option.{Option, none, some}
 use Prim.Native.Nat.{ℕ, suc, _+_, _-_, _*_, _/_, _≤_, _<_}
 use native.Mathlib.Omega.{arith}
 use native.Mathlib.Decide.{decLe}
@@ -44,8 +44,8 @@ spot-numbered nums r n d = go (firstAt (atPlace nums r n) 0 64) refl d
         inner false q f = absurd (f refl)
 
 -- numbers in fewer spots, seen from more
-wider-numbered : (count c : ℕ) (nums next : List ℕ) (k e from to : ℕ) → from ≤ k → e ≤ to → Numbered count c nums next k e 0 → Numbered count c nums next from to 0
-wider-numbered count c nums next k e from to a b m =
+wider-numbered : (count c t : ℕ) (nums next : List ℕ) (k e from to : ℕ) → from ≤ k → e ≤ to → Numbered count c t nums next k e 0 → Numbered count c t nums next from to 0
+wider-numbered count c t nums next k e from to a b m =
     record {
       grown = m .grown;
       before = λ o l. m .before o (omega arith);
@@ -54,9 +54,9 @@ wider-numbered count c nums next k e from to a b m =
       used = λ i f g. let u = m .used i f g in (u .0, omega (arith, a, u .1), omega (arith, b, u .2), u .3);
     }
 
--- no number is given: the spots are as they were
-nothing-used : (count c : ℕ) (nums next : List ℕ) (k e : ℕ) → Numbered count c nums next k e 0 → Numbered count c nums next k e c
-nothing-used count c nums next k e m = record { grown = m .grown; before = m .before; after = m .after; most = m .most; used = λ i f g. absurd (omega arith) }
+-- how many were given is not asked
+nothing-used : (count c t : ℕ) (nums next : List ℕ) (k e : ℕ) → Numbered count c t nums next k e 0 → Numbered count c 0 nums next k e 0
+nothing-used count c t nums next k e m = record { grown = m .grown; before = m .before; after = m .after; most = m .most; used = λ i f g. absurd (omega arith) }
 
 same-numbered : (fixed nums : List ℕ) (t v k m t' v' k' m' : ℕ) → t ≡ t' → v ≡ v' → k ≡ k' → m ≡ m' → childrenNumbered fixed t v k m nums ≡ childrenNumbered fixed t' v' k' m' nums
 same-numbered fixed nums t v k m t' v' k' m' a b c d = rw (a, b, c, d)
@@ -66,10 +66,10 @@ no-child-there left p j e = sub-child left j p ∙ ap (λ (x : Left). sub x j) e
 
 module _ (fixed : List ℕ) (us : List Uncovered) (n c count : ℕ) where
   pub record RowDone (nums next : List ℕ) (r : ℕ) (left : Left) : Type 0 where
-    pub numbered : Numbered count c nums next (r * 64) (r * 64 + 64) c
+    pub numbered : Numbered count c 0 nums next (r * 64) (r * 64 + 64) 0
     pub here : LeftAt fixed next (enter n c us) (r * 64) [] 0 0 left
     pub blank : (more : ℕ) → spread left + more ≡ 64 → BlankAt fixed next (r * 64 + spread left) more
-    pub used : (g : Head) → headAt left (placeNumbered n us) ≡ some g → (i : ℕ) → i < c → (o : ℕ) × (r * 64 ≤ o) × (o < r * 64 + 64) × (getD next o 0 ≡ suc (count + i))
+    pub used : (g : Head) → headAt left (placeNumbered n us) ≡ some g → (i : ℕ) → i < countOf (word g) → (o : ℕ) × (r * 64 ≤ o) × (o < r * 64 + 64) × (getD next o 0 ≡ suc (count + i))
 
 module _ (fixed : List ℕ) (long : length fixed ≡ 8256) (us : List Uncovered) (n c count : ℕ) (counted : length us ≡ count) (own : numberedAs (placeNumbered n us) us ≡ suc n)
     (only : (p : Place) → numberedAs p us ≡ suc n → p ≡ placeNumbered n us) (new : (j : ℕ) → numberedAs (j ∷ placeNumbered n us) us ≡ 0) (top : ℕ) (rest-place : Place) (rooted : placeNumbered n us ≡ top ∷ rest-place)
@@ -94,7 +94,7 @@ module _ (fixed : List ℕ) (long : length fixed ≡ 8256) (us : List Uncovered)
   row-without e =
       rw (← row-unheaded fixed struck n count r nums (headWord fixed nums r n) refl (head-word ∙ ap headOr e))
       (record {
-        numbered = numbered-none count c nums (r * 64) (r * 64 + 64) c (omega arith);
+        numbered = numbered-none count c 0 nums (r * 64) (r * 64 + 64) 0 (omega arith);
         here = kept-left fixed nums nums us (enter n c us) left (r * 64) [] 0 0 (λ o a b. refl)
             (sub-places left (λ q. numberedAs q (enter n c us) ≡ numberedAs q us) (no-child e) [] 0 left (from-start (subsUnder left []) ∙ subs-root left)) here;
         blank = blank;
@@ -102,9 +102,12 @@ module _ (fixed : List ℕ) (long : length fixed ≡ 8256) (us : List Uncovered)
       })
 
   -- ---- with a head there, at the spot r * 64 + o
-  module _ (g : Head) (kids other : Left) (is : subAt left P ≡ part g kids other) (full : wide kids ≡ c) (counts-so : countOf (word g) ≡ c) where
+  module _ (g : Head) (kids other : Left) (is : subAt left P ≡ part g kids other) (full : wide kids ≤ c) (counts-so : countOf (word g) ≡ wide kids) where
     head-is : headAt left P ≡ some g
     head-is = head-sub left P ∙ ap headHere is
+
+    same-count : (f : Head) → _≡_ {A = Option Head} (some f) (some g) → countOf (word f) ≡ countOf (word g)
+    same-count f e = let z : f ≡ g = cc in ap (λ (h : Head). countOf (word h)) z
 
     headed : headWord fixed nums r n ≡ 33554432 → ⊥
     headed e =
@@ -128,17 +131,17 @@ module _ (fixed : List ℕ) (long : length fixed ≡ 8256) (us : List Uncovered)
       next = childrenNumbered fixed (r * 64 + 64) (count + 1 + 0) (suc (r * 64 + o)) (wide kids) nums
 
       children : (d : ℕ) → LeftAt fixed nums us (suc (r * 64 + o)) P 0 d kids
-          → Numbered count c nums next (suc (r * 64 + o)) (suc (r * 64 + o) + spread kids) 0 × LeftAt fixed next (enter n c us) (suc (r * 64 + o)) P 0 d kids
+          → Numbered count c (wide kids) nums next (suc (r * 64 + o)) (suc (r * 64 + o) + spread kids) 0 × LeftAt fixed next (enter n c us) (suc (r * 64 + o)) P 0 d kids
       children d l =
-          children-numbered fixed (r * 64 + 64) (omega (arith, long, few)) us n c count counted new kids nums (suc (r * 64 + o)) 0 d (spotted-counts (r * 64 + o) P kids left (r * 64) [] 0 spotted counts) (omega (arith, full))
+          children-numbered fixed (r * 64 + 64) (omega (arith, long, few)) us n c (wide kids) count full counted new kids nums (suc (r * 64 + o)) 0 d (spotted-counts (r * 64 + o) P kids left (r * 64) [] 0 spotted counts) (omega arith)
           (omega (arith, spotted-high (r * 64 + o) P kids left (r * 64) [] 0 spotted, short)) (omega (arith, spots, few)) l
 
-      given : Numbered count c nums next (suc (r * 64 + o)) (suc (r * 64 + o) + spread kids) 0
+      given : Numbered count c (wide kids) nums next (suc (r * 64 + o)) (suc (r * 64 + o) + spread kids) 0
       given = let l = spotted-inner (r * 64 + o) P kids fixed nums us left (r * 64) [] 0 0 spotted here in children (l .0) (l .1) .0
 
-      given-row : Numbered count c nums next (r * 64) (r * 64 + 64) 0
+      given-row : Numbered count c (wide kids) nums next (r * 64) (r * 64 + 64) 0
       given-row =
-          wider-numbered count c nums next (suc (r * 64 + o)) (suc (r * 64 + o) + spread kids) (r * 64) (r * 64 + 64) (omega arith)
+          wider-numbered count c (wide kids) nums next (suc (r * 64 + o)) (suc (r * 64 + o) + spread kids) (r * 64) (r * 64 + 64) (omega arith)
           (omega (arith, spotted-high (r * 64 + o) P kids left (r * 64) [] 0 spotted, short)) given
 
       word-there : getD fixed (r * 64 + o) 0 ≡ word g
@@ -148,15 +151,15 @@ module _ (fixed : List ℕ) (long : length fixed ≡ 8256) (us : List Uncovered)
       next-is =
           row-numbered fixed struck n count r nums (headWord fixed nums r n) (r * 64 + o) next (eqb-true (getD struck r 0) 0 free) refl headed (sym at)
           (same-numbered fixed nums (r * 64 + 64) (count + 1 + 0) (suc (r * 64 + o)) (wide kids) ((r * 64 + o) / 64 * 64 + 64) (count + 1) (r * 64 + o + 1) (countOf (getD fixed (r * 64 + o) 0)) (omega (arith, inside-row)) (omega arith) (omega arith)
-          (full ∙ sym counts-so ∙ ap countOf (sym word-there)))
+          (sym counts-so ∙ ap countOf (sym word-there)))
 
       row-at : RowDone fixed us n c count nums next r left
       row-at =
           record {
-            numbered = nothing-used count c nums next (r * 64) (r * 64 + 64) given-row;
+            numbered = nothing-used count c (wide kids) nums next (r * 64) (r * 64 + 64) given-row;
             here = enter-left fixed nums next us (enter n c us) (r * 64 + o) P kids (enter-other us n c) (given .before) (given .after) (λ d l. children d l .1) left (r * 64) [] 0 0 spotted here;
             blank = λ more z. kept-blank fixed nums next more (r * 64 + spread left) (λ k a b. given .after k (omega (arith, a, spotted-high (r * 64 + o) P kids left (r * 64) [] 0 spotted))) (blank more z);
-            used = λ f q i l. given-row .used i (omega arith) l;
+            used = λ f q i l. given-row .used i (omega arith) (omega (arith, l, same-count f (sym q ∙ head-is), counts-so));
           }
 
     pub row-with : RowDone fixed us n c count nums (rowNumbered fixed struck n count r nums) r left

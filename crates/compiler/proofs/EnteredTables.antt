@@ -22,7 +22,7 @@ use Rattle.compiler.proofs.NumberLaws.{row-struck}
 use Rattle.compiler.proofs.Restores.{GrownAt, Grown, grown-none, grown-join, Apart}
 use Rattle.compiler.proofs.EnteredSpots.{same-left, kept-blank}
 use Rattle.compiler.proofs.EnteredRow.{RowDone}
-use Rattle.compiler.proofs.EnteredRows.{childCount, Enters, free-before, row-free, some-rule, row-done}
+use Rattle.compiler.proofs.EnteredRows.{childCount, Filled, Enters, some-rule, row-done}
 
 -- a number that was given stays
 pub grown-stays : (count x y v : ℕ) → GrownAt count x y → x ≡ suc v → y ≡ suc v
@@ -49,7 +49,7 @@ module _ (book fixed nums marks : List ℕ) (total : ℕ) (path : OnPath) (n : �
     pub apart : (o : ℕ) → isFree struck (rowOf 0 o) ≡ false → getD now o 0 ≡ getD nums o 0
     pub most : (o : ℕ) → getD now o 0 ≤ total + childCount h
     pub done : (q : ℕ) (rule : Rule) → q < r → isFree struck q ≡ true → ruleAt book q ≡ some rule → LeftStands now q (leftIn rule)
-    pub used : e .row < r → (i : ℕ) → i < childCount h → (o : ℕ) × (o < 4096) × (getD now o 0 ≡ suc (total + i))
+    pub used : (f : Filled book struck path n h) → f .row < r → (i : ℕ) → i < childCount h → (o : ℕ) × (o < 4096) × (getD now o 0 ≡ suc (total + i))
 
   upto-none : Upto 0 nums
   upto-none =
@@ -59,14 +59,14 @@ module _ (book fixed nums marks : List ℕ) (total : ℕ) (path : OnPath) (n : �
         apart = λ o f. refl;
         most = λ o. omega (arith, e .stands .most o);
         done = λ q rule l. absurd (omega arith);
-        used = λ l. absurd (omega arith);
+        used = λ f l. absurd (omega arith);
       }
 
   -- an earlier row's spots are untouched
   earlier-stands : (r q : ℕ) (rule : Rule) (now next : List ℕ) → q < r → r < 64 → isFree struck q ≡ true → ruleAt book q ≡ some rule → ((o : ℕ) → o < r * 64 → getD next o 0 ≡ getD now o 0)
       → LeftStands now q (leftIn rule) → LeftStands next q (leftIn rule)
   earlier-stands r q rule now next l k f z same s =
-      let t = e .stands .rows q rule (omega arith) (free-before book fixed nums marks total path n h m struck e q (omega arith) f .0) z in
+      let t = e .stands .rows q rule (omega arith) (e .fewer q (omega arith) f) z in
       record {
         here = same-left fixed now next (enter n (childCount h) (path .uncovered)) (leftIn rule) (q * 64) [] 0 0 (λ o a b. same o (omega (arith, b, t .short, l))) (s .here);
         blank = λ more y. kept-blank fixed now next more (q * 64 + spread (leftIn rule)) (λ o a b. same o (omega (arith, b, y, l))) (s .blank more y);
@@ -87,7 +87,7 @@ module _ (book fixed nums marks : List ℕ) (total : ℕ) (path : OnPath) (n : �
             apart = λ o a. apart-one o a (decLe (r * 64) o) (decLe (r * 64 + 64) o);
             most = λ o. d rule q .numbered .most o (u .most o);
             done = λ p other a b c. done-one p other a b c (decLe (suc p) r);
-            used = λ a i b. used-one a i b (decLe (suc (e .row)) r);
+            used = λ g a i b. used-one g a i b (decLe (suc (g .row)) r);
           }
         where
           apart-one : (o : ℕ) → isFree struck (rowOf 0 o) ≡ false → Dec (r * 64 ≤ o) → Dec (r * 64 + 64 ≤ o) → getD (rowNumbered fixed struck n total r now) o 0 ≡ getD nums o 0
@@ -102,13 +102,13 @@ module _ (book fixed nums marks : List ℕ) (total : ℕ) (path : OnPath) (n : �
               let k : ruleAt book r ≡ some other = ap (ruleAt book) w ∙ c in
               rw (← w) (record { here = d other k .here; blank = d other k .blank })
 
-          used-one : e .row < suc r → (i : ℕ) → i < childCount h → Dec (suc (e .row) ≤ r) → (o : ℕ) × (o < 4096) × (getD (rowNumbered fixed struck n total r now) o 0 ≡ suc (total + i))
-          used-one a i b (yes y) =
-              let x = u .used y i b in
+          used-one : (g : Filled book struck path n h) → g .row < suc r → (i : ℕ) → i < childCount h → Dec (suc (g .row) ≤ r) → (o : ℕ) × (o < 4096) × (getD (rowNumbered fixed struck n total r now) o 0 ≡ suc (total + i))
+          used-one g a i b (yes y) =
+              let x = u .used g y i b in
               (x .0, x .1, grown-stays total (getD now (x .0) 0) (getD (rowNumbered fixed struck n total r now) (x .0) 0) (total + i) (d rule q .numbered .grown .each (x .0)) (x .2))
-          used-one a i b (no y) =
-              let w : r ≡ e .row = omega arith in
-              let x = d (e .rule) (ap (ruleAt book) w ∙ e .is) .used h (e .head) i b in
+          used-one g a i b (no y) =
+              let w : r ≡ g .row = omega arith in
+              let x = d (g .rule) (ap (ruleAt book) w ∙ g .is) .used (g .head) (g .there) i (omega (arith, b, g .many)) in
               (x .0, omega (arith, x .2, l), x .3)
 
   upto-struck : (r : ℕ) (now : List ℕ) → r < 64 → isFree struck r ≡ false → Upto r now → Upto (suc r) (rowNumbered fixed struck n total r now)
@@ -120,16 +120,16 @@ module _ (book fixed nums marks : List ℕ) (total : ℕ) (path : OnPath) (n : �
         apart = u .apart;
         most = u .most;
         done = λ p other a b c. done-one p other a b c (decLe (suc p) r);
-        used = λ a. used-one a (decLe (suc (e .row)) r);
+        used = λ g a. used-one g a (decLe (suc (g .row)) r);
       })
     where
       done-one : (p : ℕ) (other : Rule) → p < suc r → isFree struck p ≡ true → ruleAt book p ≡ some other → Dec (suc p ≤ r) → LeftStands now p (leftIn other)
       done-one p other a b c (yes y) = u .done p other y b c
       done-one p other a b c (no y) = let w : p ≡ r = omega arith in let k : isFree struck r ≡ true = rw w at b in never (cc)
 
-      used-one : e .row < suc r → Dec (suc (e .row) ≤ r) → (i : ℕ) → i < childCount h → (o : ℕ) × (o < 4096) × (getD now o 0 ≡ suc (total + i))
-      used-one a (yes y) = u .used y
-      used-one a (no y) = let w : e .row ≡ r = omega arith in let k : isFree struck r ≡ true = rw w at (row-free book fixed nums marks total path n h m struck e) in never (cc)
+      used-one : (g : Filled book struck path n h) → g .row < suc r → Dec (suc (g .row) ≤ r) → (i : ℕ) → i < childCount h → (o : ℕ) × (o < 4096) × (getD now o 0 ≡ suc (total + i))
+      used-one g a (yes y) = u .used g y
+      used-one g a (no y) = let w : g .row ≡ r = omega arith in let k : isFree struck r ≡ true = rw w at (g .free) in never (cc)
 
   upto-next : (r : ℕ) (now : List ℕ) → r < 64 → Upto r now → Upto (suc r) (rowNumbered fixed struck n total r now)
   upto-next r now l u = go (isFree struck r) refl

@@ -126,7 +126,7 @@ module _ (book fixed nums marks : List ℕ) (count : ℕ) (path : OnPath) (s : S
     pub there : SpotIn spot occurrence spots
     pub holds : closedLeft fixed marks spot ≡ true
     pub name : firstConstraint fixed marks r ≡ 4160 + spot
-    pub left : constraintsLeft path (rowOfRule r rule) ≡ closedAt occurrence ∷ rest
+    pub left : constraintsLeft path (rowOfRule marks r rule) ≡ closedAt occurrence ∷ rest
 
   -- it is equality
   pub record SameFirst : Type 0 where
@@ -138,13 +138,13 @@ module _ (book fixed nums marks : List ℕ) (count : ℕ) (path : OnPath) (s : S
     pub earlier : SpotIn (firstSpot fixed spot) first spots
     pub holds : sameLeft fixed marks spot ≡ true
     pub name : firstConstraint fixed marks r ≡ 8256 + spot
-    pub left : constraintsLeft path (rowOfRule r rule) ≡ sameAt first occurrence ∷ rest
+    pub left : constraintsLeft path (rowOfRule marks r rule) ≡ sameAt first occurrence ∷ rest
 
   -- there is none
   abbrev pub NoneLeft : Type 0
-  NoneLeft = (firstConstraint fixed marks r ≡ 0) × (constraintsLeft path (rowOfRule r rule) ≡ [])
+  NoneLeft = (firstConstraint fixed marks r ≡ 0) × (constraintsLeft path (rowOfRule marks r rule) ≡ [])
 
-  all-left : constraintsLeft path (rowOfRule r rule) ≡ leftBy closedAt (closedLeft fixed marks) spots ++ leftBy (sameOf (occurrences [] 0 0 (leftIn rule))) (sameLeft fixed marks) spots
+  all-left : constraintsLeft path (rowOfRule marks r rule) ≡ leftBy closedAt (closedLeft fixed marks) spots ++ leftBy (sameOf (occurrences [] 0 0 (leftIn rule))) (sameLeft fixed marks) spots
   all-left = constraints-left book fixed nums marks count path s r rule low free is
 
   closed-first : someIn (closedLeft fixed marks) spots ≡ true → ClosedFirst
@@ -198,10 +198,10 @@ module _ (book fixed nums marks : List ℕ) (count : ℕ) (path : OnPath) (s : S
       go false e true f = inr (inr (same-first e f))
       go false e false f = inl (none-first e f)
 
-  pub none-left : firstConstraint fixed marks r ≡ 0 → constraintsLeft path (rowOfRule r rule) ≡ []
+  pub none-left : firstConstraint fixed marks r ≡ 0 → constraintsLeft path (rowOfRule marks r rule) ≡ []
   none-left z = go first-is
     where
-      go : NoneLeft ⊎ (ClosedFirst ⊎ SameFirst) → constraintsLeft path (rowOfRule r rule) ≡ []
+      go : NoneLeft ⊎ (ClosedFirst ⊎ SameFirst) → constraintsLeft path (rowOfRule marks r rule) ≡ []
       go (inl n) = n .1
       go (inr (inl f)) = absurd (omega (arith, z, f .name))
       go (inr (inr f)) = absurd (omega (arith, z, f .name))

@@ -24,7 +24,7 @@ use Rattle.compiler.proofs.Struck.{NameOf, each-in, closed-name, same-n
 pub record FirstLeft (book fixed nums marks : List ℕ) (count : ℕ) (path : OnPath) (r : ℕ) (rule : Rule) : Type 0 where
   pub c : Constraint
   pub rest : List Constraint
-  pub left : constraintsLeft path (rowOfRule r rule) ≡ c ∷ rest
+  pub left : constraintsLeft path (rowOfRule marks r rule) ≡ c ∷ rest
   pub least : 4160 ≤ firstConstraint fixed marks r
   pub most : firstConstraint fixed marks r < 12352
   pub yes-stands : (m : ℕ) (after : List ℕ) → (m ≡ 0 → ⊥) → Changed (struckSame fixed nums marks (firstConstraint fixed marks r) m) marks after → Stands book fixed nums after count (holding c path)
@@ -51,7 +51,7 @@ module _ (book fixed nums marks : List ℕ) (count : ℕ) (path : OnPath) (s : S
       (rw (row-named book fixed nums marks count path s r rule low free is)
       (all-within (leftIn rule) (path .uncovered) all-open [] 0 0 (leftIn rule) (from-start (subsUnder (leftIn rule) []) ∙ subs-root (leftIn rule)) (s .rows r rule low free is .covered)))
 
-  first-of : (c : Constraint) (rest : List Constraint) → constraintsLeft path (rowOfRule r rule) ≡ c ∷ rest → NameOf book fixed nums marks count path (firstConstraint fixed marks r) c
+  first-of : (c : Constraint) (rest : List Constraint) → constraintsLeft path (rowOfRule marks r rule) ≡ c ∷ rest → NameOf book fixed nums marks count path (firstConstraint fixed marks r) c
       → FirstLeft book fixed nums marks count path r rule
   first-of c rest e n =
       record {

@@ -21,13 +21,17 @@ use Rattle.compiler.specs.told.Stands.{rowsLeft, occurrencesAt, SameStru
 use Rattle.tree.proofs.Laws.{holding-is, has-more}
 use Rattle.compiler.proofs.SpotOccurrences.{SpotIn}
 use Rattle.compiler.proofs.LeftConstraints.{LaterAt, Laters, row-laters}
-use Rattle.compiler.proofs.Pigeonhole.{pigeonhole}
+use Rattle.compiler.proofs.Pigeonhole.{few-numbers}
 
 -- ---- marks after striking
 module _ (fixed nums marks : List ℕ) (id m : ℕ) (after : List ℕ) (new : m ≡ 0 → ⊥) (c : Changed (struckSame fixed nums marks id m) marks after) where
   pub strike-below : (k : ℕ) → k < kindFrom id → isFree after k ≡ isFree marks k
   unfolding Changed
   strike-below k h = rw (c k, lt-ltb k (kindFrom id) h)
+
+  pub strike-root : 64 < kindFrom id → getD after 64 0 ≡ getD marks 64 0
+  unfolding Changed
+  strike-root h = c 64 ∙ rw (lt-ltb 64 (kindFrom id) h)
 
   pub strike-above : (k : ℕ) → kindFrom id + 4096 ≤ k → isFree after k ≡ isFree marks k
   unfolding Changed
@@ -69,10 +73,10 @@ struck-held fixed marks after held c os (s ∷ ss) es a b l t = (
     go (some f) l t = struck-more (isFree after (8256 + s .0)) (isFree marks (8256 + s .0)) (sameAt f (s .1)) c held (b (s .0) (s .1) f (inl (refl, refl)) (l .0) (l .1)) t
 
 -- ---- rows
-pub rows-same : (book before after : List ℕ) → ((r : ℕ) → r < 64 → isFree after r ≡ isFree before r) → (more r : ℕ) → r + more ≤ 64 → rowsLeft book after r more ≡ rowsLeft book before r more
+pub rows-same : (book before after : List ℕ) → ((r : ℕ) → r < 64 → isFree after r ≡ isFree before r) → getD after 64 0 ≡ getD before 64 0 → (more r : ℕ) → r + more ≤ 64 → rowsLeft book after r more ≡ rowsLeft book before r more
 unfolding rowsLeft
-rows-same book before after e zero r h = refl
-rows-same book before after e (suc more) r h = rw (e r (omega arith), rows-same book before after e more (suc r) (omega arith))
+rows-same book before after e a zero r h = refl
+rows-same book before after e a (suc more) r h = rw (e r (omega arith), a, rows-same book before after e a more (suc r) (omega arith))
 
 -- THE LAW of a constraint that holds
 module _ (book fixed nums marks : List ℕ) (count : ℕ) (path : OnPath) (s : Stands book fixed nums marks count path) (c : Constraint) (after : List ℕ)
@@ -106,11 +110,12 @@ module _ (book fixed nums marks : List ℕ) (count : ℕ) (path : OnPath) (s : S
       record {
         accepted = s .accepted;
         counted = s .counted;
-        opened = λ n h. below (64 + n) (omega (arith, h, pigeonhole 4096 count (λ k. getD nums k 0) (s .used))) ∙ s .opened n h;
+        opened = λ n h. below (64 + n) (omega (arith, h, few-numbers nums count (s .roots) (s .used))) ∙ s .opened n h;
         later = λ n h l. below (64 + n) (omega arith) ∙ s .later n h l;
         once = s .once;
         new = s .new;
         above = s .above;
+        roots = s .roots;
         used = s .used;
         most = s .most;
         absent = λ r h e. below r (omega arith) ∙ s .absent r h e;

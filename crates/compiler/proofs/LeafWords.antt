@@ -3,11 +3,12 @@ use mathlib.Core.Path.{_≡_, refl, sym, ap, ap₂, _∙_}
 use mathlib.Core.Bool.{true}
 use mathlib.Core.List.{List, [], _∷_, _++_}
 use mathlib.Core.Option.{Option, none, some}
-use Prim.Native.Nat.{ℕ, zero, suc, _+_, _*_, _≤_, _<_}
+use Prim.Native.Nat.{ℕ, zero, suc, _+_, _-_, _*_, _≤_, _<_}
 use native.Mathlib.Omega.{arith}
 use lib.ListN.{length}
 use Rattle.book.specs.Book.{Rule, ruleAt}
 use Rattle.fit.specs.Constraint.{Occurrence, occurrences, firstOf}
+use Rattle.fit.specs.Front.{rootArguments}
 use Rattle.fit.specs.Match.{leftIn}
 use Rattle.fit.proofs.Laws.{accepted-good, GoodRule, IsThere, occurs-first, Each, first-each}
 use Rattle.tree.specs.Path.{Uncovered, OnPath, numberIn}
@@ -16,10 +17,11 @@ use Rattle.tree.specs.Rows.{subsUnder, lowestOpen}
 use Rattle.tree.specs.Tree.{LeafVariable}
 use Rattle.tree.specs.Compile.{variableAt, variablesFrom, leafNodeOf, leafOf}
 use Rattle.tree.specs.Layout.{variableWords, layout}
-use Rattle.compiler.specs.told.Tables.{isFree, occurrenceWords, variableSpot, leafFrom, leafWords}
+use Rattle.compiler.specs.told.Tables.{isFree, rootHas, sizeAt, occurrenceWords, variableSpot, leafFrom, leafWords}
 use Rattle.compiler.specs.told.Stands.{RowStands, Stands}
 use Rattle.tree.proofs.Laws.{variables-none, variables-more, from-none, from-more, leaf-of, many-variables, leaf-laid, from-start, subs-root, all-within}
 use Rattle.compiler.proofs.RowsLeft.{rowOfRule}
+use Rattle.compiler.proofs.RootSymbols.{root-symbol}
 use Rattle.compiler.proofs.SpotOccurrences.{row-spot, row-variable-spot}
 use Rattle.compiler.proofs.SpotWords.{spot-words}
 
@@ -74,13 +76,19 @@ module _ (book fixed nums marks : List ℕ) (count : ℕ) (path : OnPath) (s : S
                 (first-each (λ q. Within (q .place) us) x os o within e);
           }
 
-  leaf-words : (at : ℕ) → layout at (leafOf us (rowOfRule r rule)) ≡ 1 ∷ r ∷ rule .vars ∷ variableWords (variablesFrom us os 0 (rule .vars))
-  leaf-words at =
-      ap (layout at) (leaf-of us (rowOfRule r rule)) ∙ leaf-laid at (leafNodeOf us (rowOfRule r rule))
-      ∙ ap (λ (n : ℕ). 1 ∷ r ∷ n ∷ variableWords (variablesFrom us os 0 (rule .vars))) (many-variables us os (rule .vars) 0)
+  -- the row's own arguments are those that its root word counts
+  root-own : sizeAt fixed (r * 64) ≡ rootArguments (leftIn rule)
+  root-own =
+      let t = root-symbol book fixed nums marks count path s r rule low free is in
+      t .counts ∙ sym (t .arguments-are)
 
-  pub leaf-is : (at : ℕ) → leafWords fixed nums r ≡ layout at (leafOf us (rowOfRule r rule))
+  leaf-words : (at : ℕ) → layout at (leafOf us (rowOfRule marks r rule)) ≡ 1 ∷ r ∷ rule .vars ∷ (rootHas marks - rootArguments (leftIn rule)) ∷ variableWords (variablesFrom us os 0 (rule .vars))
+  leaf-words at =
+      ap (layout at) (leaf-of us (rowOfRule marks r rule)) ∙ leaf-laid at (leafNodeOf us (rowOfRule marks r rule))
+      ∙ ap (λ (n : ℕ). 1 ∷ r ∷ n ∷ (rootHas marks - rootArguments (leftIn rule)) ∷ variableWords (variablesFrom us os 0 (rule .vars))) (many-variables us os (rule .vars) 0)
+
+  pub leaf-is : (at : ℕ) → leafWords fixed nums marks r ≡ layout at (leafOf us (rowOfRule marks r rule))
   unfolding leafWords
   leaf-is at =
-      rw (row .variables)
-      (ap (λ (ws : List ℕ). 1 ∷ r ∷ rule .vars ∷ ws) (leaf-variables fixed nums us os r (rule .vars) variable-is (rule .vars) 0 (omega arith)) ∙ sym (leaf-words at))
+      rw (row .variables, root-own)
+      (ap (λ (ws : List ℕ). 1 ∷ r ∷ rule .vars ∷ (rootHas marks - rootArguments (leftIn rule)) ∷ ws) (leaf-variables fixed nums us os r (rule .vars) variable-is (rule .vars) 0 (omega arith)) ∙ sym (leaf-words at))

@@ -268,11 +268,11 @@ module _ (book fixed nums marks : List ℕ) (count : ℕ) (path : OnPath) (s : S
   pub first-there : (k : ℕ) (o f : Occurrence) → SpotIn k o spots → firstOf (o .var) allOf ≡ some f → SpotIn (firstSpot fixed k) f spots
   first-there k o f i e = rw (first-spot-is k o i) (rw e at (row-variable book fixed nums marks count path s r rule low free is (o .var)))
 
-  pub constraints-left : constraintsLeft path (rowOfRule r rule)
+  pub constraints-left : constraintsLeft path (rowOfRule marks r rule)
       ≡ leftBy closedAt (closedLeft fixed marks) spots ++ leftBy (sameOf allOf) (sameLeft fixed marks) spots
   constraints-left =
       let t = s .rows r rule low free is .struck in
-      left-are path (rowOfRule r rule)
+      left-are path (rowOfRule marks r rule)
       ∙ ap (unstruck (path .held)) (constraints-are (leftIn rule))
       ∙ unstruck-join (path .held) (closeds allOf) (sames [] allOf)
       ∙ ap₂ _++_

@@ -11,6 +11,7 @@ mod Lowests
 mod LowestRow
 mod StruckRows
 mod NewHeads
+mod RootSymbols
 mod LeafWords
 mod Pigeonhole
 mod EnteredSpots
@@ -19,6 +20,7 @@ mod EnteredChildren
 mod EnteredLeft
 mod EnteredRow
 mod EnteredRows
+mod EnteredHead
 mod EnteredTables
 mod Entered
 mod SpotOccurrences

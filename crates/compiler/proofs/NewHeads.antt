@@ -16,7 +16,7 @@ use Rattle.fit.specs.Match.{leftIn}
 use Rattle.tree.specs.Path.{OnPath, placeNumbered}
 use Rattle.tree.specs.Rows.{headAt}
 use Rattle.tree.specs.Compile.{without, addHead, heads}
-use Rattle.compiler.specs.told.Tables.{firstAt, manyAt, isFree, hasHead, headWord, newHead, isHeadWord, countHeads, headKind}
+use Rattle.compiler.specs.told.Tables.{firstAt, manyAt, isFree, rootHas, hasHead, headWord, newHead, isHeadWord, countHeads, headKind}
 use Rattle.compiler.specs.told.Stands.{rowIf, rowsLeft, Stands}
 use Rattle.tree.proofs.Laws.{heads-no, without-none, without-more, heads-row}
 use Rattle.compiler.proofs.SpotHeads.{headOr}
@@ -260,10 +260,10 @@ module _ (book fixed nums marks : List ℕ) (count : ℕ) (path : OnPath) (s : S
     all-heads (suc more) r l = go (isFree marks r) refl (ruleAt book r) refl (all-heads more (suc r) (omega arith))
       where
         go : (a : Bool) → isFree marks r ≡ a → (o : Option Rule) → ruleAt book r ≡ o → AllHeads (heads at (rowsLeft book marks (suc r) more))
-            → AllHeads (heads at (rowIf a r o (rowsLeft book marks (suc r) more)))
+            → AllHeads (heads at (rowIf a (rootHas marks) r o (rowsLeft book marks (suc r) more)))
         go false f o e i = i
         go true f none e i = i
-        go true f (some rule) e i = rw (heads-row at (rowOfRule r rule) (rowsLeft book marks (suc r) more)) (added (headAt (leftIn rule) at) refl)
+        go true f (some rule) e i = rw (heads-row at (rowOfRule marks r rule) (rowsLeft book marks (suc r) more)) (added (headAt (leftIn rule) at) refl)
           where
             added : (o : Option Head) → headAt (leftIn rule) at ≡ o → AllHeads (addHead o (heads at (rowsLeft book marks (suc r) more)))
             added none q = i
@@ -277,11 +277,11 @@ module _ (book fixed nums marks : List ℕ) (count : ℕ) (path : OnPath) (s : S
       where
         go : (a : Bool) → isFree marks r ≡ a → (o : Option Rule) → ruleAt book r ≡ o
             → headWords (keptHeads (isNewHead fixed nums marks n (suc r)) (heads at (rowsLeft book marks (suc r) more))) ≡ headsFrom fixed nums marks n (suc r) more
-            → headWords (keptHeads (isNewHead fixed nums marks n r) (heads at (rowIf a r o (rowsLeft book marks (suc r) more)))) ≡ headsFrom fixed nums marks n r (suc more)
+            → headWords (keptHeads (isNewHead fixed nums marks n r) (heads at (rowIf a (rootHas marks) r o (rowsLeft book marks (suc r) more)))) ≡ headsFrom fixed nums marks n r (suc more)
         go false f o e i = adds-struck fixed nums marks n r more (heads at (rowsLeft book marks (suc r) more)) i f
         go true f none e i = never (let z = s .absent r (omega arith) e in cc)
         go true f (some rule) e i =
-            rw (heads-row at (rowOfRule r rule) (rowsLeft book marks (suc r) more))
+            rw (heads-row at (rowOfRule marks r rule) (rowsLeft book marks (suc r) more))
             (added (headAt (leftIn rule) at) refl (row-head book fixed nums marks count path s n known r rule (omega arith) f e))
           where
             added : (o : Option Head) → headAt (leftIn rule) at ≡ o → headWord fixed nums r n ≡ headOr (headAt (leftIn rule) at)

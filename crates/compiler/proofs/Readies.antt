@@ -21,7 +21,7 @@ use Rattle.compiler.proofs.WordLaws.{length-ids}
 use Rattle.compiler.proofs.SpotHeads.{headOr}
 use Rattle.compiler.proofs.Strikes.{row-head, head-kinds}
 use Rattle.compiler.proofs.StruckRows.{struck-later, struck-stands}
-use Rattle.compiler.proofs.Restores.{Marked, marked-join, rows-marked, same-marked, set-marked, marked-below, rows-apart, same-apart, set-back, unmark-restores, forget-restores}
+use Rattle.compiler.proofs.Restores.{Marked, marked-join, rows-marked, same-marked, set-marked, marked-below, still-shut, rows-apart, same-apart, set-back, unmark-restores, forget-restores}
 use Rattle.compiler.proofs.NewHeads.{heads-few, heads-counted, new-head-row}
 use Rattle.compiler.proofs.LeftFalls.{case-falls, default-falls, yes-falls, no-falls}
 use Rattle.compiler.proofs.ToldNodes.{first-row, lowest-open, first-test}
@@ -43,9 +43,9 @@ leaf-most fixed nums r x (suc more) =
       length-ids fixed (variableSpot fixed r x) 0 (sizeAt fixed (variableSpot fixed r x)),
     )
 
-pub leaf-long : (fixed nums : List ℕ) (r : ℕ) → getD fixed (8192 + r) 0 ≤ 16 → length (leafWords fixed nums r) ≤ 4115
+pub leaf-long : (fixed nums marks : List ℕ) (r : ℕ) → getD fixed (8192 + r) 0 ≤ 16 → length (leafWords fixed nums marks r) ≤ 4116
 unfolding leafWords
-leaf-long fixed nums r h = omega (arith, h, leaf-most fixed nums r 0 (getD fixed (8192 + r) 0))
+leaf-long fixed nums marks r h = omega (arith, h, leaf-most fixed nums r 0 (getD fixed (8192 + r) 0))
 
 pub front-long : (fixed nums : List ℕ) (id : ℕ) → length (frontWords fixed nums id) ≤ 514
 unfolding frontWords
@@ -114,7 +114,7 @@ module _ (fixed nums marks : List ℕ) (limit count at id : ℕ) (t : TestReady 
   pub test-id : (4160 ≤ id) × (id < 12352)
   test-id = (omega (arith, t .is, first-one .least), omega (arith, t .is, first-one .most))
 
-  module _ (m : ℕ) (own : m ≡ at + 2) where
+  module _ (m : ℕ) (own : m ≡ at + 17) where
     real : m ≡ 0 → ⊥
     real e = omega (arith, e, own)
 
@@ -133,7 +133,8 @@ module _ (fixed nums marks : List ℕ) (limit count at id : ℕ) (t : TestReady 
           record {
             sizes = (ready .sizes .0, ready .sizes .1, size ∙ ready .sizes .2);
             within = (ready .within .0, l);
-            older = marked-below m (a + 2) marks struck below yes-marked (omega (arith, own));
+            older = marked-below m (a + 17) marks struck below yes-marked (omega (arith, own));
+            inner = still-shut m marks struck yes-marked 64 (ready .inner);
             book = ready .book;
             path = holding (first-one .c) (ready .path);
             stands = first-one .yes-stands m struck real changed-is;
@@ -163,7 +164,8 @@ module _ (fixed nums marks : List ℕ) (limit count at id : ℕ) (t : TestReady 
           record {
             sizes = (ready .sizes .0, ready .sizes .1, size ∙ ready .sizes .2);
             within = (ready .within .0, l);
-            older = marked-below m (a + 2) marks dropped below no-marked (omega (arith, own));
+            older = marked-below m (a + 17) marks dropped below no-marked (omega (arith, own));
+            inner = still-shut m marks dropped no-marked 64 (ready .inner);
             book = ready .book;
             path = ready .path;
             stands = struck-stands (ready .book) fixed nums marks count (ready .path) (ready .stands) (rowHas fixed nums marks id) m dropped real changed;
@@ -203,7 +205,7 @@ module _ (fixed nums marks : List ℕ) (limit count at n : ℕ) (t : SwitchReady
       let l = head-kinds (switch-ready .book) fixed nums marks count (switch-ready .path) (switch-ready .stands) n (place-known .0) (firstRow marks) (f .rule) (t .first) (f .free) (f .is) (o .head) (o .is) in
       ap isHeadWord (w ∙ ap headOr (o .is)) ∙ rw (ne-eqb (word (o .head)) 33554432 (head-there (word (o .head)) l))
 
-  module _ (m : ℕ) (own : m ≡ at + 2) where
+  module _ (m : ℕ) (own : m ≡ at + 17) where
     switch-real : m ≡ 0 → ⊥
     switch-real e = omega (arith, e, own)
 
@@ -217,6 +219,7 @@ module _ (fixed nums marks : List ℕ) (limit count at n : ℕ) (t : SwitchReady
           within = (switch-ready .within .0, l);
           older = switch-below;
           newer = omega (arith, own);
+          inner = switch-ready .inner;
           known = place-known .0;
           unmarked-place = place-known .1;
           book = switch-ready .book;
@@ -233,7 +236,8 @@ module _ (fixed nums marks : List ℕ) (limit count at n : ℕ) (t : SwitchReady
           record {
             sizes = (switch-ready .sizes .0, switch-ready .sizes .1, size ∙ switch-ready .sizes .2);
             within = (switch-ready .within .0, l);
-            older = marked-below m (a + 2) marks dropped switch-below default-marked (omega (arith, own));
+            older = marked-below m (a + 17) marks dropped switch-below default-marked (omega (arith, own));
+            inner = still-shut m marks dropped default-marked 64 (switch-ready .inner);
             book = switch-ready .book;
             path = switch-ready .path;
             stands = struck-stands (switch-ready .book) fixed nums marks count (switch-ready .path) (switch-ready .stands) (hasOther fixed nums n 33554432) m dropped switch-real changed;
@@ -267,8 +271,8 @@ module _ (fixed nums marks : List ℕ) (limit count at m n w : ℕ) (t : CasesRe
   case-real e = omega (arith, e, t .older 0)
 
   module _ (struck : List ℕ) (size : length struck ≡ length marks) (changed : Changed (struckRows (hasOther fixed nums n w) m) marks struck) where
-    the-case : CaseIs (t .book) fixed nums marks count n w m case-real (t .known) (t .unmarked-place) of-row struck changed (size ∙ t .sizes .2, t .sizes .1, t .sizes .0) (t .path)
-    the-case = case-is (t .book) fixed nums marks count n w m case-real (t .known) (t .unmarked-place) of-row struck changed (size ∙ t .sizes .2, t .sizes .1, t .sizes .0) (t .path) (t .stands)
+    the-case : CaseIs (t .book) fixed nums marks count n w m case-real (t .known) (t .inner) (t .unmarked-place) of-row struck changed (size ∙ t .sizes .2, t .sizes .1, t .sizes .0) (t .path)
+    the-case = case-is (t .book) fixed nums marks count n w m case-real (t .known) (t .inner) (t .unmarked-place) of-row struck changed (size ∙ t .sizes .2, t .sizes .1, t .sizes .0) (t .path) (t .stands)
 
     place-within : 64 + n < length struck
     place-within = omega (arith, t .known, case-places, size, t .sizes .2)
@@ -287,7 +291,8 @@ module _ (fixed nums marks : List ℕ) (limit count at m n w : ℕ) (t : CasesRe
         record {
           sizes = (t .sizes .0, the-case .grown .long ∙ t .sizes .1, length-set struck (64 + n) m ∙ size ∙ t .sizes .2);
           within = t .within;
-          older = marked-below m (at + 2) marks (set struck (64 + n) m) (t .older) case-marked (t .newer);
+          older = marked-below m (at + 17) marks (set struck (64 + n) m) (t .older) case-marked (t .newer);
+          inner = still-shut m marks (set struck (64 + n) m) case-marked 64 (t .inner);
           book = t .book;
           path = entering n (the-case .head) (t .path);
           stands = the-case .stands;

@@ -87,6 +87,14 @@ marked-below m n before after b p h k = go (getD before k 0) (getD after k 0) (b
     go x y l (inl e) = omega arith
     go x y l (inr e) = omega (arith, e .1)
 
+-- a place that was entered stays so
+pub still-shut : (m : ℕ) (before after : List ℕ) → Marked m before after → (k : ℕ) → isFree before k ≡ false → isFree after k ≡ false
+still-shut m before after p k e = go (getD before k 0) (getD after k 0) (eqb-false (getD before k 0) 0 e) (p .each k)
+  where
+    go : (x y : ℕ) → (x ≡ 0 → ⊥) → MarkedAt m x y → eqb y 0 ≡ false
+    go x y d (inl z) = ne-eqb y 0 (λ q. d (sym z ∙ q))
+    go x y d (inr z) = absurd (d (z .0))
+
 -- what a test does not pick is as it was
 abbrev pub Apart : (ℕ → Bool) → List ℕ → List ℕ → Type 0
 Apart p before after = (k : ℕ) → p k ≡ false → getD after k 0 ≡ getD before k 0

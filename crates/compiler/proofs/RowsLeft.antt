@@ -13,14 +13,13 @@ use Rattle.term.proofs.Laws.{never}
 use Rattle.book.specs.Book.{Rule, ruleAt}
 use Rattle.fit.specs.Match.{leftIn}
 use Rattle.tree.specs.Rows.{RuleRow}
-use Rattle.compiler.specs.told.Tables.{Changed, isFree, firstRow, struckRows, firstAt}
-use Rattle.compiler.specs.told.Stands.{rowIf, rowsLeft}
+use Rattle.compiler.specs.told.Tables.{Changed, isFree, rootHas, firstRow, struckRows, firstAt}
+use Rattle.compiler.specs.told.Stands.{rowWith, rowIf, rowsLeft}
 use Rattle.tree.proofs.Laws.{keptRows, kept-none, kept-row}
 
-abbrev pub rowOfRule : ℕ → Rule → RuleRow
-rowOfRule r rule = record { number = r; vars = rule .vars; left = leftIn rule }
+abbrev pub rowOfRule : List ℕ → ℕ → Rule → RuleRow
+rowOfRule marks r rule = rowWith (rootHas marks) r rule
 
--- ---- rows that a test keeps
 -- ---- striking
 pub struck-free : (p : ℕ → Bool) (m : ℕ) (before after : List ℕ) → Changed (struckRows p m) before after → (m ≡ 0 → ⊥) → (r : ℕ) → r < 64 → isFree after r ≡ isFree before r && not (p r)
 unfolding Changed
@@ -31,29 +30,34 @@ struck-free p m before after c n r h = rw (c r, lt-ltb r 64 h) (go (eqb (getD be
     go true e false = e
     go false e b = e
 
+-- and the root keeps its mark
+pub struck-root : (p : ℕ → Bool) (m : ℕ) (before after : List ℕ) → Changed (struckRows p m) before after → getD after 64 0 ≡ getD before 64 0
+unfolding Changed
+struck-root p m before after c = c 64
+
 -- THE LAW of rows: where the test strikes just the rows that are not kept, those left are the ones kept
 pub rows-kept : (book : List ℕ) (p : ℕ → Bool) (keep : RuleRow → Bool) (m : ℕ) (before after : List ℕ) → Changed (struckRows p m) before after → (m ≡ 0 → ⊥)
-    → ((r : ℕ) (rule : Rule) → r < 64 → isFree before r ≡ true → ruleAt book r ≡ some rule → keep (rowOfRule r rule) ≡ not (p r))
+    → ((r : ℕ) (rule : Rule) → r < 64 → isFree before r ≡ true → ruleAt book r ≡ some rule → keep (rowOfRule before r rule) ≡ not (p r))
     → (more r : ℕ) → r + more ≤ 64 → rowsLeft book after r more ≡ keptRows keep (rowsLeft book before r more)
 unfolding rowsLeft
 rows-kept book p keep m before after c n k zero r h = sym (kept-none keep)
 rows-kept book p keep m before after c n k (suc more) r h =
-    rw (struck-free p m before after c n r (omega arith)) (go (isFree before r) refl (ruleAt book r) refl (rows-kept book p keep m before after c n k more (suc r) (omega arith)))
+    rw (struck-free p m before after c n r (omega arith), struck-root p m before after c) (go (isFree before r) refl (ruleAt book r) refl (rows-kept book p keep m before after c n k more (suc r) (omega arith)))
   where
     go : (a : Bool) → isFree before r ≡ a → (o : Option Rule) → ruleAt book r ≡ o → rowsLeft book after (suc r) more ≡ keptRows keep (rowsLeft book before (suc r) more)
-        → rowIf (a && not (p r)) r o (rowsLeft book after (suc r) more) ≡ keptRows keep (rowIf a r o (rowsLeft book before (suc r) more))
+        → rowIf (a && not (p r)) (rootHas before) r o (rowsLeft book after (suc r) more) ≡ keptRows keep (rowIf a (rootHas before) r o (rowsLeft book before (suc r) more))
     go false e o z i = i
     go true e none z i = last (not (p r)) i
       where
-        last : (b : Bool) → rowsLeft book after (suc r) more ≡ keptRows keep (rowsLeft book before (suc r) more) → rowIf b r none (rowsLeft book after (suc r) more) ≡ keptRows keep (rowsLeft book before (suc r) more)
+        last : (b : Bool) → rowsLeft book after (suc r) more ≡ keptRows keep (rowsLeft book before (suc r) more) → rowIf b (rootHas before) r none (rowsLeft book after (suc r) more) ≡ keptRows keep (rowsLeft book before (suc r) more)
         last true i = i
         last false i = i
     go true e (some rule) z i = some-row (not (p r)) (k r rule (omega arith) e z) i
       where
-        some-row : (b : Bool) → keep (rowOfRule r rule) ≡ b → rowsLeft book after (suc r) more ≡ keptRows keep (rowsLeft book before (suc r) more)
-            → rowIf b r (some rule) (rowsLeft book after (suc r) more) ≡ keptRows keep (rowOfRule r rule ∷ rowsLeft book before (suc r) more)
-        some-row true q i = rw (kept-row keep (rowOfRule r rule) (rowsLeft book before (suc r) more), q, i)
-        some-row false q i = rw (kept-row keep (rowOfRule r rule) (rowsLeft book before (suc r) more), q, i)
+        some-row : (b : Bool) → keep (rowOfRule before r rule) ≡ b → rowsLeft book after (suc r) more ≡ keptRows keep (rowsLeft book before (suc r) more)
+            → rowIf b (rootHas before) r (some rule) (rowsLeft book after (suc r) more) ≡ keptRows keep (rowOfRule before r rule ∷ rowsLeft book before (suc r) more)
+        some-row true q i = rw (kept-row keep (rowOfRule before r rule) (rowsLeft book before (suc r) more), q, i)
+        some-row false q i = rw (kept-row keep (rowOfRule before r rule) (rowsLeft book before (suc r) more), q, i)
 
 -- ---- the first row
 pub record FirstRow (book marks : List ℕ) (first from more : ℕ) : Type 0 where
@@ -61,9 +65,9 @@ pub record FirstRow (book marks : List ℕ) (first from more : ℕ) : Type 0 whe
   pub rest : List RuleRow
   pub is : ruleAt book first ≡ some rule
   pub free : isFree marks first ≡ true
-  pub rows : rowsLeft book marks from more ≡ rowOfRule first rule ∷ rest
+  pub rows : rowsLeft book marks from more ≡ rowOfRule marks first rule ∷ rest
 
-rows-step : (book marks : List ℕ) (r more : ℕ) → rowsLeft book marks r (suc more) ≡ rowIf (isFree marks r) r (ruleAt book r) (rowsLeft book marks (suc r) more)
+rows-step : (book marks : List ℕ) (r more : ℕ) → rowsLeft book marks r (suc more) ≡ rowIf (isFree marks r) (rootHas marks) r (ruleAt book r) (rowsLeft book marks (suc r) more)
 unfolding rowsLeft
 rows-step book marks r more = refl
 

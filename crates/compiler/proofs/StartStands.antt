@@ -13,9 +13,11 @@ use Rattle.term.specs.Row.{Row, nothing, node, width, words}
 use Rattle.term.proofs.Laws.{never, width-nothing, words-node}
 use Rattle.book.specs.Book.{Rule, checkBook, ruleAt}
 use Rattle.book.proofs.Laws.{book-rule, book-rules, number-rule, rule-number}
+use Rattle.fit.specs.Front.{rootArguments}
+use Rattle.fit.specs.Match.{leftIn}
 use Rattle.tree.specs.Path.{start}
 use Rattle.tree.specs.Compile.{bookRows}
-use Rattle.compiler.specs.told.Tables.{Changed, isFree}
+use Rattle.compiler.specs.told.Tables.{Changed, isFree, rootHas}
 use Rattle.compiler.specs.told.Stands.{rowIf, rowsLeft, Stands}
 use Rattle.compiler.specs.told.Loaded.{RulesAt, rootNumbered, absentMarked}
 use Rattle.tree.proofs.Laws.{rows-none, rows-more, below-root}
@@ -42,14 +44,19 @@ module _ (book fixed nums marks : List ℕ) (accepted : checkBook book ≡ Good)
         once = λ n m a b e. omega (arith, a, b);
         new = new-root;
         above = λ i j p e. below-root i j p;
-        used = λ n h. (0 * 64, omega arith, root-one book fixed nums marks accepted rules numbers struck 0 (omega arith) ∙ omega (arith, h));
+        roots = root-one book fixed nums marks accepted rules numbers struck;
+        used = λ n l h. absurd (omega arith);
         most = at-most-one book fixed nums marks accepted rules numbers struck;
         absent = row-absent book fixed nums marks accepted rules numbers struck;
         rows = λ r rule h f e. row-stands book fixed nums marks accepted rules numbers struck r rule h e (left-some r rule e);
       }
 
   -- ---- the rows
-  left-step : (r more : ℕ) → rowsLeft book marks r (suc more) ≡ rowIf (isFree marks r) r (ruleAt book r) (rowsLeft book marks (suc r) more)
+  -- no argument is set aside where the root is not entered
+  none-aside : (n : ℕ) → rootHas marks - n ≡ 0
+  none-aside n = omega (arith, struck 64)
+
+  left-step : (r more : ℕ) → rowsLeft book marks r (suc more) ≡ rowIf (isFree marks r) (rootHas marks) r (ruleAt book r) (rowsLeft book marks (suc r) more)
   unfolding rowsLeft
   left-step r more = refl
 
@@ -62,10 +69,10 @@ module _ (book fixed nums marks : List ℕ) (accepted : checkBook book ≡ Good)
   rows-from (suc more) r e = left-step r more ∙ go (ruleAt book r) refl (rows-from more (suc r) (omega (arith, e)))
     where
       go : (o : Option Rule) → ruleAt book r ≡ o → rowsLeft book marks (suc r) more ≡ bookRows book (suc r) (getD book 0 0 - suc r)
-          → rowIf (isFree marks r) r (ruleAt book r) (rowsLeft book marks (suc r) more) ≡ bookRows book r (getD book 0 0 - r)
+          → rowIf (isFree marks r) (rootHas marks) r (ruleAt book r) (rowsLeft book marks (suc r) more) ≡ bookRows book r (getD book 0 0 - r)
       go none q i = absent (ltb r (getD book 0 0)) refl
         where
-          absent : (b : Bool) → ltb r (getD book 0 0) ≡ b → rowIf (isFree marks r) r (ruleAt book r) (rowsLeft book marks (suc r) more) ≡ bookRows book r (getD book 0 0 - r)
+          absent : (b : Bool) → ltb r (getD book 0 0) ≡ b → rowIf (isFree marks r) (rootHas marks) r (ruleAt book r) (rowsLeft book marks (suc r) more) ≡ bookRows book r (getD book 0 0 - r)
           absent true z = never (let y = number-rule book r accepted (ltb-true r (getD book 0 0) z) .1 in cc)
           absent false z =
               let l = ltb-false r (getD book 0 0) z in
@@ -74,7 +81,7 @@ module _ (book fixed nums marks : List ℕ) (accepted : checkBook book ≡ Good)
       go (some rule) q i =
           let l = rule-number book r rule q in
           let z : getD book 0 0 - r ≡ suc (getD book 0 0 - suc r) = omega (arith, l) in
-          rw (z, rows-more book r (getD book 0 0 - suc r), row-free book fixed nums marks accepted rules numbers struck r rule (omega (arith, e)) q, i)
+          rw (z, rows-more book r (getD book 0 0 - suc r), row-free book fixed nums marks accepted rules numbers struck r rule (omega (arith, e)) q, q, i, none-aside (rootArguments (leftIn rule)))
 
   pub start-rows : rowsLeft book marks 0 64 ≡ bookRows book 0 (getD book 0 0)
   start-rows =

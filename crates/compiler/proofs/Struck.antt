@@ -27,7 +27,7 @@ use Rattle.compiler.proofs.SpotWords.{spot-ids, spot-number, spot-words
 use Rattle.compiler.proofs.LeftConstraints.{closedLeft, sameLeft, closed-constraint, same-constraint, closed-is}
 use Rattle.compiler.proofs.SameConstraints.{same-closed-name, same-same-name, same-closed, same-same}
 use Rattle.compiler.proofs.ConstraintRows.{rows-without, row-has-closed, row-has-same, same-with}
-use Rattle.compiler.proofs.HeldStands.{strike-below, strike-above, strike-there, rows-same, held-stands}
+use Rattle.compiler.proofs.HeldStands.{strike-below, strike-root, strike-above, strike-there, rows-same, held-stands}
 
 -- what a constraint's name in the tables does
 pub record NameOf (book fixed nums marks : List ℕ) (count : ℕ) (path : OnPath) (id : ℕ) (c : Constraint) : Type 0 where
@@ -37,7 +37,7 @@ pub record NameOf (book fixed nums marks : List ℕ) (count : ℕ) (path : OnPat
   pub yes-rows : (m : ℕ) (after : List ℕ) → (m ≡ 0 → ⊥) → Changed (struckSame fixed nums marks id m) marks after → rowsLeft book after 0 64 ≡ rowsLeft book marks 0 64
   pub no-rows : (m : ℕ) (after : List ℕ) → (m ≡ 0 → ⊥) → Changed (struckRows (rowHas fixed nums marks id) m) marks after → rowsLeft book after 0 64 ≡ rowsWithout c path (rowsLeft book marks 0 64)
   pub front : frontWords fixed nums id ≡ testFront c (path .uncovered)
-  pub row-has : (q : ℕ) (other : Rule) → q < 64 → isFree marks q ≡ true → ruleAt book q ≡ some other → rowHas fixed nums marks id q ≡ has c (constraintsLeft path (rowOfRule q other))
+  pub row-has : (q : ℕ) (other : Rule) → q < 64 → isFree marks q ≡ true → ruleAt book q ≡ some other → rowHas fixed nums marks id q ≡ has c (constraintsLeft path (rowOfRule marks q other))
   pub own : (strikes fixed nums marks id id ≡ true) × (isFree marks id ≡ true)
 
 pub each-in : (P : Occurrence → Type 0) (ss : List (ℕ × Occurrence)) → Each P (named ss) → (k : ℕ) (o : Occurrence) → SpotIn k o ss → P o
@@ -105,14 +105,14 @@ module _ (book fixed nums marks : List ℕ) (count : ℕ) (path : OnPath) (s : S
           least = omega arith;
           most = omega arith;
           yes-stands = closed-stands;
-          yes-rows = λ m after n c. rows-same book marks after (λ q l. closed-below m after n c q (omega arith)) 64 0 (omega arith);
+          yes-rows = λ m after n c. rows-same book marks after (λ q l. closed-below m after n c q (omega arith)) (strike-root fixed nums marks name m after n c (omega (arith, closed-kind k small))) 64 0 (omega arith);
           no-rows = rows-without book fixed nums marks count path s name (closedAt o) has-it;
           front = closed-front;
           row-has = has-it;
           own = (closed-own r f a b h, and-left (isFree marks (4160 + k)) (isClosed fixed k) h);
         }
       where
-        has-it : (q : ℕ) (other : Rule) → q < 64 → isFree marks q ≡ true → ruleAt book q ≡ some other → rowHas fixed nums marks name q ≡ has (closedAt o) (constraintsLeft path (rowOfRule q other))
+        has-it : (q : ℕ) (other : Rule) → q < 64 → isFree marks q ≡ true → ruleAt book q ≡ some other → rowHas fixed nums marks name q ≡ has (closedAt o) (constraintsLeft path (rowOfRule marks q other))
         has-it q other l g e = row-has-closed book fixed nums marks count path s q other l g e from to k o x w small
 
   -- ---- equality
@@ -172,12 +172,12 @@ module _ (book fixed nums marks : List ℕ) (count : ℕ) (path : OnPath) (s : S
           least = omega arith;
           most = omega arith;
           yes-stands = same-stands;
-          yes-rows = λ m after n c. rows-same book marks after (λ q l. same-below m after n c q (omega arith)) 64 0 (omega arith);
+          yes-rows = λ m after n c. rows-same book marks after (λ q l. same-below m after n c q (omega arith)) (strike-root fixed nums marks later m after n c (omega (arith, same-kind k))) 64 0 (omega arith);
           no-rows = rows-without book fixed nums marks count path s later (sameAt f o) has-it;
           front = same-front;
           row-has = has-it;
           own = (same-own r h a b d, and-left (isFree marks (8256 + k)) (isSame fixed k) d);
         }
       where
-        has-it : (q : ℕ) (other : Rule) → q < 64 → isFree marks q ≡ true → ruleAt book q ≡ some other → rowHas fixed nums marks later q ≡ has (sameAt f o) (constraintsLeft path (rowOfRule q other))
+        has-it : (q : ℕ) (other : Rule) → q < 64 → isFree marks q ≡ true → ruleAt book q ≡ some other → rowHas fixed nums marks later q ≡ has (sameAt f o) (constraintsLeft path (rowOfRule marks q other))
         has-it q other l g e = row-has-same book fixed nums marks count path s q other l g e from to k f o x1 x w1 w

@@ -63,6 +63,7 @@ module _ (book fixed nums marks : List ℕ) (count : ℕ) (path : OnPath) (s : S
         once = s .once;
         new = s .new;
         above = s .above;
+        roots = s .roots;
         used = s .used;
         most = s .most;
         absent = λ r h e. struck-free p m marks after c z r h ∙ ap (_&& not (p r)) (s .absent r h e);

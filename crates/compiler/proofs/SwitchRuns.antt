@@ -27,7 +27,7 @@ OneCase fixed nums marks limit count at n w out done nums-after marks-after x =
     ((book : List ℕ) → CaseTold book fixed nums marks limit count at n w out done x) × TreeKept nums marks limit at nums-after marks-after x
 
 -- ---- a Switch
-module _ (fixed nums marks : List ℕ) (limit count at n : ℕ) (t : SwitchReady fixed nums marks limit count at n) (m : ℕ) (own : m ≡ at + 2) (out : List ℕ) (many : ℕ)
+module _ (fixed nums marks : List ℕ) (limit count at n : ℕ) (t : SwitchReady fixed nums marks limit count at n) (m : ℕ) (own : m ≡ at + 17) (out : List ℕ) (many : ℕ)
     (many-is : many ≡ countHeads fixed nums marks n) where
   pub cases-needs : CasesReady fixed nums marks limit count (at + 4 + 2 * many) m n × (at + 3 + 1 + 2 * countHeads fixed nums marks n ≡ at + 4 + 2 * many)
   cases-needs =
@@ -96,13 +96,13 @@ module _ (fixed nums marks : List ℕ) (limit count at m n w : ℕ) (t : CasesRe
   module _ (done nums₃ marks₃ : List ℕ) (x : Passed) (sub : Subtree fixed nums₂ (set struck (64 + n) m) limit (count + countOf w) at out done nums₃ marks₃ x) where
     pub case-over : x ≡ Stuck → (book : List ℕ) → CaseTold book fixed nums marks limit count at n w out done Stuck
     case-over e book =
-        case-stuck book fixed nums marks count n w m case-real (t .known) (t .unmarked-place) of-row struck changed (size ∙ t .sizes .2, t .sizes .1, t .sizes .0) limit at out done (rw (numbers, e) at (sub .0 book))
+        case-stuck book fixed nums marks count n w m case-real (t .known) (t .inner) (t .unmarked-place) of-row struck changed (size ∙ t .sizes .2, t .sizes .1, t .sizes .0) limit at out done (rw (numbers, e) at (sub .0 book))
 
     pub case-done : (next : ℕ) → x ≡ Done next → (nums₄ marks₄ : List ℕ) → length nums₄ ≡ length nums₃ → Changed (onlyAt (ofFreeRow marks₃ 0) (forgotten count)) nums₃ nums₄
         → length marks₄ ≡ length (set marks₃ (64 + n) 0) → Changed (onlyAt isRow (unmarked m)) (set marks₃ (64 + n) 0) marks₄
         → OneCase fixed nums marks limit count at n w out done nums₄ marks₄ (Done next)
     case-done next e nums₄ marks₄ nums-size forgets marks-size unmarks =
         let k : (nums₃ ≡ nums₂) × (marks₃ ≡ set struck (64 + n) m) × (at ≤ next) × (next ≤ limit + 5000) = rw e at (sub .1) in (
-          λ book. case-told book fixed nums marks count n w m case-real (t .known) (t .unmarked-place) of-row struck changed (size ∙ t .sizes .2, t .sizes .1, t .sizes .0) limit at out done next (rw (numbers, e) at (sub .0 book)),
+          λ book. case-told book fixed nums marks count n w m case-real (t .known) (t .inner) (t .unmarked-place) of-row struck changed (size ∙ t .sizes .2, t .sizes .1, t .sizes .0) limit at out done next (rw (numbers, e) at (sub .0 book)),
           (case-nums-restored fixed nums marks limit count at m n w t of-row struck size changed nums₃ marks₃ nums₄ (k .0 ∙ numbers) (k .1) nums-size forgets, case-marks-restored fixed nums marks limit count at m n w t of-row struck size changed marks₃ marks₄ (k .1) marks-size unmarks, k .2, k .3),
         )

@@ -18,7 +18,7 @@ abbrev pub Subtree : List ℕ → List ℕ → List ℕ → ℕ → ℕ → ℕ 
 Subtree fixed nums marks limit count at out done nums-after marks-after x =
     ((book : List ℕ) → TreeTold book fixed nums marks limit count at out done x) × TreeKept nums marks limit at nums-after marks-after x
 
-module _ (fixed nums marks : List ℕ) (limit count at id : ℕ) (t : TestReady fixed nums marks limit count at id) (m : ℕ) (own : m ≡ at + 2) (out : List ℕ) (slot : ℕ)
+module _ (fixed nums marks : List ℕ) (limit count at id : ℕ) (t : TestReady fixed nums marks limit count at id) (m : ℕ) (own : m ≡ at + 17) (out : List ℕ) (slot : ℕ)
     (slot-is : slot ≡ at + length (frontWords fixed nums id)) where
   pub slot-most : slot ≤ limit + 514
   slot-most = omega (arith, slot-is, front-long fixed nums id, t .room)

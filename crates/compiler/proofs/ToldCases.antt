@@ -17,26 +17,24 @@ use Rattle.book.specs.Book.{Rule, checkBook, ruleAt}
 use Rattle.fit.specs.Left.{Left, part}
 use Rattle.fit.specs.Constraint.{Place}
 use Rattle.fit.specs.Match.{leftIn}
-use Rattle.fit.proofs.Laws.{accepted-good}
 use Rattle.tree.specs.Tree.{Cases, NoCase, Case}
 use Rattle.tree.specs.Path.{OnPath, placeNumbered}
 use Rattle.tree.specs.Rows.{headAt}
 use Rattle.tree.specs.Compile.{heads, caseRows, entering, casesOf, compile}
 use Rattle.tree.specs.Layout.{caseCount, long, longCases, caseHeads, layout, layoutCases}
-use Rattle.compiler.specs.told.Tables.{Changed, isFree, ofFreeRow, struckRows, hasOther, newHead, isHeadWord, countHeads, rowsNumbered}
+use Rattle.compiler.specs.told.Tables.{Changed, isFree, rootHas, ofFreeRow, struckRows, hasOther, newHead, isHeadWord, countHeads, rowsNumbered}
 use Rattle.compiler.specs.told.Stands.{rowIf, rowsLeft, Stands, TreeTold}
 use Rattle.compiler.specs.told.NodeTold.{HeadOfCase, caseTree, CaseTold, CasesTold}
-use Rattle.tree.proofs.Laws.{length-heads, length-layout, tables-none, tables-row, cases-of-none, cases-of-more, count-cases-of, no-case, one-case, head-headed, Full, full-at, good-full, InTables, same-head}
+use Rattle.tree.proofs.Laws.{length-heads, length-layout, tables-none, tables-row, cases-of-none, cases-of-more, count-cases-of, no-case, one-case, head-headed, Full, full-at, InTables, same-head}
 use Rattle.compiler.proofs.Restores.{Grown, Apart}
+use Rattle.compiler.proofs.RowsLeft.{rowOfRule}
 use Rattle.compiler.proofs.Strikes.{case-left}
+use Rattle.compiler.proofs.EnteredRows.{full-rule}
 use Rattle.compiler.proofs.NewHeads.{headsFrom, headWords, heads-end, heads-step, heads-skip, heads-counted, new-heads, new-head-is}
 use Rattle.compiler.proofs.NodeWords.{case-words}
 use Rattle.compiler.proofs.Entered.{entered-stands, entered-grown}
 
 -- ---- the heads of an accepted book's rows are in the table
-full-rule : (book : List ℕ) → checkBook book ≡ Good → (r : ℕ) (rule : Rule) → ruleAt book r ≡ some rule → Full (leftIn rule)
-full-rule book accepted r rule e = good-full (rule .vars) 0 (leftIn rule) (accepted-good book accepted r rule e .good)
-
 in-table : (left : Left) (p : Place) (h : Head) → Full left → headAt left p ≡ some h → InTable h
 in-table left p h f e =
     let x = head-headed left p h e in
@@ -48,19 +46,24 @@ unfolding rowsLeft
 rows-tables book marks p accepted zero r = tables-none p
 rows-tables book marks p accepted (suc more) r = go (isFree marks r) (ruleAt book r) refl (rows-tables book marks p accepted more (suc r))
   where
-    go : (b : Bool) (o : Option Rule) → ruleAt book r ≡ o → InTables (heads p (rowsLeft book marks (suc r) more)) → InTables (heads p (rowIf b r o (rowsLeft book marks (suc r) more)))
+    go : (b : Bool) (o : Option Rule) → ruleAt book r ≡ o → InTables (heads p (rowsLeft book marks (suc r) more)) → InTables (heads p (rowIf b (rootHas marks) r o (rowsLeft book marks (suc r) more)))
     go false o e i = i
     go true none e i = i
-    go true (some rule) e i = tables-row (record { number = r; vars = rule .vars; left = leftIn rule }) (rowsLeft book marks (suc r) more) p (full-rule book accepted r rule e) i
+    go true (some rule) e i = tables-row (rowOfRule marks r rule) (rowsLeft book marks (suc r) more) p (full-rule book accepted r rule e) i
 
--- ---- a mark that is no row's changes no row
-rows-set : (book l : List ℕ) (n m more r : ℕ) → r + more ≤ 64 → rowsLeft book (set l (64 + n) m) r more ≡ rowsLeft book l r more
+-- ---- a mark that is no row's and not the root's changes no row
+rows-set : (book l : List ℕ) (n m : ℕ) → (n ≡ 0 → ⊥) → (more r : ℕ) → r + more ≤ 64 → rowsLeft book (set l (64 + n) m) r more ≡ rowsLeft book l r more
 unfolding rowsLeft
-rows-set book l n m zero r h = refl
-rows-set book l n m (suc more) r h = rw (getD-set-other l (64 + n) r m 0 (λ e. omega (arith, e)), rows-set book l n m more (suc r) (omega arith))
+rows-set book l n m z zero r h = refl
+rows-set book l n m z (suc more) r h =
+    rw (getD-set-other l (64 + n) r m 0 (λ e. omega (arith, e)), getD-set-other l (64 + n) 64 m 0 (λ e. z (omega (arith, e))), rows-set book l n m z more (suc r) (omega arith))
+
+-- an open place is not the root, where that was entered
+not-root : (marks : List ℕ) (n : ℕ) → isFree marks 64 ≡ false → isFree marks (64 + n) ≡ true → n ≡ 0 → ⊥
+not-root marks n a b e = let c : isFree marks (64 + 0) ≡ true = rw e at b in never (cc)
 
 -- ---- one case
-module _ (book fixed nums marks : List ℕ) (count n w m : ℕ) (real : m ≡ 0 → ⊥) (known : n < count) (free : isFree marks (64 + n) ≡ true) (of-row : HeadOfCase fixed nums marks n w)
+module _ (book fixed nums marks : List ℕ) (count n w m : ℕ) (real : m ≡ 0 → ⊥) (known : n < count) (inner : isFree marks 64 ≡ false) (free : isFree marks (64 + n) ≡ true) (of-row : HeadOfCase fixed nums marks n w)
     (struck : List ℕ) (strikes : Changed (struckRows (hasOther fixed nums n w) m) marks struck) (sizes : (length struck ≡ 12352) × (length nums ≡ 4096) × (length fixed ≡ 8256)) where
   -- the head of the case, and what the tables stand for once its place is entered
   pub record CaseIs (path : OnPath) : Type 0 where
@@ -94,7 +97,7 @@ module _ (book fixed nums marks : List ℕ) (count n w m : ℕ) (real : m ≡ 0 
             good = t;
             words = e;
             stands = rw (counted h t e) at (entered-stands book fixed nums marks count path s n known o h r rule l f q there m real struck c (sizes .0) (sizes .1) (sizes .2));
-            rows = rows-set book struck n m 64 0 (omega arith) ∙ case-left book fixed nums marks count path s n known h m struck real c;
+            rows = rows-set book struck n m (not-root marks n inner free) 64 0 (omega arith) ∙ case-left book fixed nums marks count path s n known h m struck real c;
             grown = g .0;
             apart = g .1;
           }

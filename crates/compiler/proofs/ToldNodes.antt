@@ -69,13 +69,13 @@ module _ (book fixed nums marks : List ℕ) (limit count at : ℕ) (out : List �
       (rw (c, fail-long) z, rw (c, fail-layout at) e)
 
   pub leaf-told : firstRow marks < 64 → lowestFrom fixed nums marks (firstRow marks * 64) 64 0 ≡ 0 → firstConstraint fixed marks (firstRow marks) ≡ 0 → (done : List ℕ) (a : ℕ)
-      → done ≡ sets out at (leafWords fixed nums (firstRow marks)) → a ≡ at + length (leafWords fixed nums (firstRow marks)) → TreeTold book fixed nums marks limit count at out done (Done a)
+      → done ≡ sets out at (leafWords fixed nums marks (firstRow marks)) → a ≡ at + length (leafWords fixed nums marks (firstRow marks)) → TreeTold book fixed nums marks limit count at out done (Done a)
   unfolding TreeTold
   leaf-told h l q done a e z path s =
       let f = first-row book fixed nums marks count path s h in
       let o = none-open book fixed nums marks count path s h l in
-      let c = compile-leaf path (rowsLeft book marks 0 64) (rowOfRule (firstRow marks) (f .rule)) (f .rest) (f .rows) o (none-left book fixed nums marks count path s (firstRow marks) (f .rule) h (f .free) (f .is) q) in
-      let w : leafWords fixed nums (firstRow marks) ≡ layout at (compile path (rowsLeft book marks 0 64)) = leaf-is book fixed nums marks count path s (firstRow marks) (f .rule) h (f .free) (f .is) o at ∙ ap (layout at) (sym c) in
+      let c = compile-leaf path (rowsLeft book marks 0 64) (rowOfRule marks (firstRow marks) (f .rule)) (f .rest) (f .rows) o (none-left book fixed nums marks count path s (firstRow marks) (f .rule) h (f .free) (f .is) q) in
+      let w : leafWords fixed nums marks (firstRow marks) ≡ layout at (compile path (rowsLeft book marks 0 64)) = leaf-is book fixed nums marks count path s (firstRow marks) (f .rule) h (f .free) (f .is) o at ∙ ap (layout at) (sym c) in
       (z ∙ ap (at +_) (ap length w ∙ length-layout at (compile path (rowsLeft book marks 0 64))), e ∙ ap (sets out at) w)
 
   module _ (few : firstRow marks < 64) (lowest : lowestFrom fixed nums marks (firstRow marks * 64) 64 0 ≡ 0) (id : ℕ) (is : id ≡ firstConstraint fixed marks (firstRow marks)) (some-left : id ≡ 0 → ⊥)
@@ -101,7 +101,7 @@ module _ (book fixed nums marks : List ℕ) (limit count at : ℕ) (out : List �
           c = l .c;
           front = ap (frontWords fixed nums) is ∙ l .front;
           whole =
-              compile-test path (rowsLeft book marks 0 64) (rowOfRule (firstRow marks) (f .rule)) (f .rest) (l .c) (l .rest) (f .rows) (none-open book fixed nums marks count path s few lowest) (l .left)
+              compile-test path (rowsLeft book marks 0 64) (rowOfRule marks (firstRow marks) (f .rule)) (f .rest) (l .c) (l .rest) (f .rows) (none-open book fixed nums marks count path s few lowest) (l .left)
               ∙ ap (λ (rows : List RuleRow). testOf (l .c) (path .uncovered) (compile (holding (l .c) path) rows) (compile path (rowsWithout (l .c) path (rowsLeft book marks 0 64)))) (sym (l .yes-rows m struck real ch));
           yes-stands = l .yes-stands m struck real ch;
           no-rows-are = λ dropped d. l .no-rows m dropped real (rw is at d);

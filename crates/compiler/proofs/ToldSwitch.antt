@@ -51,7 +51,7 @@ module _ (book fixed nums marks : List ℕ) (limit count at : ℕ) (out : List �
       let k = lowest-known fixed nums marks count (s .most) (firstRow marks * 64) n lowest .0 in
       record {
         known = k;
-        whole = compile-switch path (rowsLeft book marks 0 64) (rowOfRule (firstRow marks) (f .rule)) (f .rest) n (f .rows) (lowest-open book fixed nums marks count path s few n lowest);
+        whole = compile-switch path (rowsLeft book marks 0 64) (rowOfRule marks (firstRow marks) (f .rule)) (f .rest) n (f .rows) (lowest-open book fixed nums marks count path s few n lowest);
         many = count-cases book marks path n (heads (placeNumbered n (path .uncovered)) (rowsLeft book marks 0 64)) ∙ switch-many book fixed nums marks count path s n k;
       }
 

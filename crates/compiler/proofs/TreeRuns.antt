@@ -58,11 +58,11 @@ module _ (fixed nums marks : List ℕ) (limit count at : ℕ) (t : TreeReady fix
           pub test-needs : (id ≡ 0 → ⊥) → TestReady fixed nums marks limit count at id
           test-needs h = record { ready = t; room = room; first = few-entry; none-open = sym lowest-entry ∙ none-open; is = first-entry; some-left = h }
 
-          pub leaf-needs : (length fixed ≡ 8256) × (length nums ≡ 4096) × (at ≤ 16384) × (r < 64) × (getD fixed (8192 + r) 0 ≤ 16)
-          leaf-needs = (t .sizes .0, t .sizes .1, omega (arith, room, t .within .0), few, rw is (few-variables fixed nums marks limit count at t few-entry))
+          pub leaf-needs : (length fixed ≡ 8256) × (length nums ≡ 4096) × (length marks ≡ 12352) × (at ≤ 16384) × (r < 64) × (getD fixed (8192 + r) 0 ≤ 16)
+          leaf-needs = (t .sizes .0, t .sizes .1, t .sizes .2, omega (arith, room, t .within .0), few, rw is (few-variables fixed nums marks limit count at t few-entry))
 
-          pub tree-leaf : id ≡ 0 → (done : List ℕ) (a : ℕ) → done ≡ sets out at (leafWords fixed nums r) → a ≡ at + length (leafWords fixed nums r) → Subtree fixed nums marks limit count at out done nums marks (Done a)
+          pub tree-leaf : id ≡ 0 → (done : List ℕ) (a : ℕ) → done ≡ sets out at (leafWords fixed nums marks r) → a ≡ at + length (leafWords fixed nums marks r) → Subtree fixed nums marks limit count at out done nums marks (Done a)
           tree-leaf e done a p q = (
             λ book. leaf-told book fixed nums marks limit count at out few-entry (sym lowest-entry ∙ none-open) (sym first-entry ∙ e) done a (p ∙ rw is) (q ∙ rw is),
-            (refl, refl, omega (arith, q), omega (arith, q, room, leaf-long fixed nums r (leaf-needs .4))),
+            (refl, refl, omega (arith, q), omega (arith, q, room, leaf-long fixed nums marks r (leaf-needs .5))),
           )

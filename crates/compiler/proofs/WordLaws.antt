@@ -9,7 +9,7 @@ use lib.ListN.{length, getD, set, length-append}
 use lib.Seq.{sets}
 use borrow.Author.Tests.{lt-ltb, le-ltb, eq-eqb, ne-eqb, ltb-true}
 use Rattle.term.specs.Word.{pick, identOf}
-use Rattle.compiler.specs.told.Tables.{firstAt, isVariable, listed, sizeAt, idsFrom, idsAt, numberAt, occurrenceWords, variableSpot, leafFrom, leafWords, sameWordsOf, frontWords, firstSpot}
+use Rattle.compiler.specs.told.Tables.{firstAt, isVariable, listed, sizeAt, idsFrom, idsAt, numberAt, occurrenceWords, variableSpot, leafFrom, asideAt, leafWords, sameWordsOf, frontWords, firstSpot}
 
 -- words are set one after the other
 pub sets-join : (us vs l : List ℕ) (i : ℕ) → sets l i (us ++ vs) ≡ sets (sets l i us) (i + length us) vs
@@ -104,15 +104,17 @@ leaf-end fixed nums out₀ at r vars out a x s h =
     let l : leafFrom fixed nums r x (vars - x) ≡ [] = ap (leafFrom fixed nums r x) z ∙ leaf-none fixed nums r x in
     (sym (s .wrote ∙ ap (sets out a) l), omega (arith, s .long, ap length l))
 
-pub leaf-put : (fixed nums out : List ℕ) (at r : ℕ) (a b c done : List ℕ) (n : ℕ) → a ≡ set out at 1 → b ≡ set a (at + 1) r → c ≡ set b (at + 2) (getD fixed (8192 + r) 0)
-    → done ≡ sets c (at + 3) (leafFrom fixed nums r 0 (getD fixed (8192 + r) 0)) → n ≡ at + 3 + length (leafFrom fixed nums r 0 (getD fixed (8192 + r) 0))
-    → (done ≡ sets out at (leafWords fixed nums r)) × (n ≡ at + length (leafWords fixed nums r))
+pub leaf-put : (fixed nums marks out : List ℕ) (at r : ℕ) (a b c d done : List ℕ) (k n : ℕ) → k ≡ asideAt fixed marks r → a ≡ set out at 1 → b ≡ set a (at + 1) r
+    → c ≡ set b (at + 2) (getD fixed (8192 + r) 0) → d ≡ set c (at + 3) k
+    → done ≡ sets d (at + 4) (leafFrom fixed nums r 0 (getD fixed (8192 + r) 0)) → n ≡ at + 4 + length (leafFrom fixed nums r 0 (getD fixed (8192 + r) 0))
+    → (done ≡ sets out at (leafWords fixed nums marks r)) × (n ≡ at + length (leafWords fixed nums marks r))
 unfolding leafWords
-leaf-put fixed nums out at r a b c done n p q s t u =
+leaf-put fixed nums marks out at r a b c d done k n e p q s v t u =
     let x : at + 1 ≡ suc at = omega arith in
     let y : at + 2 ≡ suc (suc at) = omega arith in
     let z : at + 3 ≡ suc (suc (suc at)) = omega arith in
-    (t ∙ rw (s, q, p, x, y, z), omega (arith, u))
+    let w : at + 4 ≡ suc (suc (suc (suc at))) = omega arith in
+    (t ∙ rw (v, s, q, p, e, x, y, z, w), omega (arith, u))
 
 -- ---- a test up to its addresses
 pub front-closed : (fixed nums out : List ℕ) (at id : ℕ) (first done : List ℕ) (a : ℕ) → id < 8256 → first ≡ set out at 3 → done ≡ sets first (at + 1) (occurrenceWords fixed nums (id - 4160))

@@ -30,8 +30,8 @@ use term::word::count_of;
 use tree::node::FAIL;
 use tree::node::SWITCH;
 
-// A node's own mark: its address, past the two marks that are no node's.
-const OWN: u32 = 2;
+// A node's own mark: its address, past the marks that are no node's, which are FREE, ABSENT_ROW and those of the root's place.
+pub const OWN: u32 = 17;
 
 // Writes a test and its subtrees.
 fn test_node(
@@ -206,5 +206,5 @@ pub fn tree_of(
     if id != NONE_LEFT {
         return test_node(fixed, nums, marks, out, limit, count, at, id);
     }
-    Passed::Done(put_leaf(fixed, nums, out, at, r))
+    Passed::Done(put_leaf(fixed, nums, marks, out, at, r))
 }

@@ -19,7 +19,8 @@ pub const VARS: usize = 8192;
 
 pub const FIXED: usize = 8256;
 
-// The marks: the rows that are struck, the places that are entered, the spots whose closedness is struck, and those whose equality is.
+// The marks: the rows that are struck, the places that are entered, the spots whose closedness is struck, and those whose equality is. The mark of the
+// root's place is one more than the number of its arguments.
 pub const ENTERED: usize = 64;
 
 pub const CLOSED_MARKS: usize = 4160;

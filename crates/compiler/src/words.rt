@@ -4,10 +4,11 @@ ghost use mathlib.Core.List.{_∷_};
 ghost use Prim.Native.Nat.{ℕ, _+_, _*_, _-_, _≤_, _<_};
 ghost use lib.ListN.{length, getD};
 ghost use lib.Seq.{sets};
-ghost use Rattle.compiler.specs.told.Tables.{sizeAt, idsAt, numberAt, occurrenceWords, variableSpot, leafFrom, leafWords, frontWords, isVariable};
+ghost use Rattle.compiler.specs.told.Tables.{sizeAt, idsAt, numberAt, occurrenceWords, variableSpot, leafFrom, asideAt, leafWords, frontWords, isVariable};
 use crate::constraints::first_spot;
 use crate::constraints::is_variable;
 use crate::table::CLOSED_MARKS;
+use crate::table::ENTERED;
 use crate::table::SAME_MARKS;
 use crate::table::VARS;
 use book::limits::MOST_SIDE;
@@ -85,15 +86,36 @@ fn put_variables(fixed: &[u32], nums: &[u32], out: &mut [u32], at: usize, r: usi
     a
 }
 
+// How many arguments of the root are set aside for row r.
+fn aside_of(fixed: &[u32], marks: &[u32], r: usize) -> u32
+    requires { ⌜ (length (now fixed) ≡ 8256) × (length (now marks) ≡ 12352) × (r < 64) ⌝ }
+    ensures { λ n. ⌜ n ≡ asideAt (now (fixed .entry)) (now (marks .entry)) r ⌝ }
+{
+    let own = count_of(fixed[r * MOST_SIDE]);
+    if marks[ENTERED] <= own {
+        return 0;
+    }
+    marks[ENTERED] - 1 - own
+}
+
 // Writes the Leaf of row r; the offset after it.
-pub fn put_leaf(fixed: &[u32], nums: &[u32], out: &mut [u32], at: usize, r: usize) -> usize
-    requires { ⌜ (length (now fixed) ≡ 8256) × (length (now nums) ≡ 4096) × (at ≤ 16384) × (r < 64) × (getD (now fixed) (8192 + r) 0 ≤ 16) ⌝ }
-    ensures { λ a. ⌜ (now (out .exit) ≡ sets (now (out .entry)) at (leafWords (now (fixed .entry)) (now (nums .entry)) r)) × (a ≡ at + length (leafWords (now (fixed .entry)) (now (nums .entry)) r)) ⌝ }
+pub fn put_leaf(
+    fixed: &[u32],
+    nums: &[u32],
+    marks: &[u32],
+    out: &mut [u32],
+    at: usize,
+    r: usize,
+) -> usize
+    requires { ⌜ (length (now fixed) ≡ 8256) × (length (now nums) ≡ 4096) × (length (now marks) ≡ 12352) × (at ≤ 16384) × (r < 64) × (getD (now fixed) (8192 + r) 0 ≤ 16) ⌝ }
+    ensures { λ a. ⌜ (now (out .exit) ≡ sets (now (out .entry)) at (leafWords (now (fixed .entry)) (now (nums .entry)) (now (marks .entry)) r))
+        × (a ≡ at + length (leafWords (now (fixed .entry)) (now (nums .entry)) (now (marks .entry)) r)) ⌝ }
 {
     put(out, at, LEAF);
     put(out, at + 1, r as u32);
     put(out, at + 2, fixed[VARS + r]);
-    put_variables(fixed, nums, out, at + 3, r)
+    put(out, at + 3, aside_of(fixed, marks, r));
+    put_variables(fixed, nums, out, at + 4, r)
 }
 
 // Writes a test up to its addresses; where they stand.

@@ -88,8 +88,8 @@ sub-of left p i h kids rest e =
     let s : subAt left (i ∷ p) ≡ part h kids end = sub-child left i p ∙ a .0 in
     (s, headed-below left i p h (record { kids = kids; rest = end; is = s }), a .1)
 
--- entering a node keeps what is covered, where the row's head there has so many sub-patterns
-module _ (left : Left) (us : List Uncovered) (n c : ℕ) (fits : (h : Head) (kids rest : Left) → subAt left (placeNumbered n us) ≡ part h kids rest → wide kids ≡ c) where
+-- entering a node keeps what is covered, where the row's head there has no more sub-patterns
+module _ (left : Left) (us : List Uncovered) (n c : ℕ) (fits : (h : Head) (kids rest : Left) → subAt left (placeNumbered n us) ≡ part h kids rest → wide kids ≤ c) where
   new-waits : (j : ℕ) → j < c → Waiting (j ∷ placeNumbered n us) (enter n c us)
   unfolding enter
   new-waits j h = waiting-after (j ∷ placeNumbered n us) (marked n us) (childrenFrom (placeNumbered n us) 0 c) (child-waits (placeNumbered n us) c 0 j (omega arith) (omega arith))
@@ -110,7 +110,7 @@ module _ (left : Left) (us : List Uncovered) (n c : ℕ) (fits : (h : Head) (kid
       → Waiting (i ∷ p) (enter n c us) ⊎ Covered (enter n c us) (i ∷ p) 0 kids
   part-covered p i h kids s (inl w) = inl w
   part-covered p i h kids s (inr z) =
-      let l : wide kids ≡ c = fits h kids end (ap (subAt left) z ∙ s) in
+      let l : wide kids ≤ c = fits h kids end (ap (subAt left) z ∙ s) in
       inr (children-covered (enter n c us) (i ∷ p) c (λ j q. rw z at (new-waits j q)) 0 kids (omega (arith, l)))
 
   pub enter-covered : (p : Place) (i : ℕ) (k : Left) → subsFrom i (subsUnder left p) ≡ k → Covered us p i k → Covered (enter n c us) p i k

@@ -4,6 +4,7 @@ use mathlib.Core.Bool.{Bool, true, false, _&&_}
 use mathlib.Core.List.{List, [], _∷_}
 use mathlib.Core.Option.{Option, none, some}
 use Prim.Native.Nat.{ℕ, _<_}
+use native.Mathlib.Omega.{arith}
 use lib.Dec.{eqb, ltb}
 use borrow.Author.Tests.{eqb-true}
 use Rattle.term.specs.Word.{Head, word, count, pick, InTable}
@@ -71,7 +72,7 @@ pub live-entered : (us : List Uncovered) (n : ℕ) (h : Head) → InTable h → 
 live-entered us n h i row l b =
     record {
       full = l .full;
-      covered = enter-covered (row .left) us n (count h) (case-count (row .left) (l .full) h i (placeNumbered n us) b) [] 0 (row .left) (from-start (subsUnder (row .left) []) ∙ subs-root (row .left)) (l .covered);
+      covered = enter-covered (row .left) us n (count h) (λ g kids rest z. omega (arith, case-count (row .left) (l .full) h i (placeNumbered n us) b g kids rest z)) [] 0 (row .left) (from-start (subsUnder (row .left) []) ∙ subs-root (row .left)) (l .covered);
       lists = l .lists;
       there = l .there;
     }

@@ -26,6 +26,10 @@ pub use Rattle.tree.proofs.RowClauses.{in-none, in-more, among-none, am
 pub use Rattle.tree.proofs.TreeClauses.{without-none, without-more, heads-no, heads-row, tables-none, tables-row, from-none, from-more, leaf-of, many-variables, entering-is, holding-is, cases-of-none, cases-of-more, count-cases-of}
 pub use Rattle.tree.proofs.TreeClauses.{compile-none, compile-leaf, compile-test, compile-switch, testFront, TestLaid, test-laid, rows-none, rows-more}
 pub use Rattle.tree.proofs.Layouts.{leaf-laid, fail-long, fail-layout, no-case, one-case, switch-long, switch-laid, length-cases}
+-- The root Switch: its symbols, counts, rows and cases.
+pub use Rattle.tree.proofs.RootClauses.{without-id-none, without-id-more, symbols-none, symbols-row, smallest-none, smallest-row, no-counts, more-counts, heads-of-none, heads-of-more, root-heads-are}
+pub use Rattle.tree.proofs.RootClauses.{root-rows-none, root-rows-row, root-cases-none, root-cases-more, count-root-cases, root-tree-none, root-tree-some, book-tree-is, head-at-root}
+pub use Rattle.tree.proofs.RootHeads.{HeadIn, RootsIn, root-heads-table}
 -- Sub-patterns at places, and heads that are in the table.
 pub use Rattle.tree.proofs.Subs.{subsFrom, from-end, from-hole, from-part, from-start, subs-root, sub-child, head-sub, head-headed, none-below, headed-below, root-unheaded, Headed, Full, full-at, good-full}
 pub use Rattle.tree.proofs.Finds.{InTables, tables-add}

@@ -26,5 +26,6 @@ mod EnteredPlaces
 mod Numbers
 mod RowClauses
 mod TreeClauses
+mod RootClauses
 mod Computed
 pub mod Laws

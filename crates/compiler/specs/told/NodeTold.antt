@@ -54,7 +54,8 @@ pub record CasesReady (fixed nums marks : List ℕ) (limit count at mark n : ℕ
   pub sizes : (length fixed ≡ 8256) × (length nums ≡ 4096) × (length marks ≡ 12352)
   pub within : (limit ≤ 16384) × (at ≤ limit + 5000)
   pub older : (k : ℕ) → getD marks k 0 < mark
-  pub newer : mark < at + 2
+  pub newer : mark < at + 17
+  pub inner : isFree marks 64 ≡ false
   pub known : n < count
   pub unmarked-place : isFree marks (64 + n) ≡ true
   pub book : List ℕ

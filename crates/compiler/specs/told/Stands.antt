@@ -1,5 +1,5 @@
 -- What the compiler's tables stand for: a path, and the rows that are not struck, each a rule seen from the path.
-use Prim.Native.Nat.{ℕ, zero, suc, _+_, _*_, _≤_, _<_}
+use Prim.Native.Nat.{ℕ, zero, suc, _+_, _-_, _*_, _≤_, _<_}
 use mathlib.Core.Path.{_≡_}
 use mathlib.Core.Bool.{Bool, true, false, _&&_, not}
 use mathlib.Core.List.{List, [], _∷_, _++_}
@@ -15,22 +15,28 @@ use Rattle.term.specs.Renumber.{inside}
 use Rattle.book.specs.Book.{Rule, checkBook, ruleAt}
 use Rattle.fit.specs.Left.{Left, end, hole, part}
 use Rattle.fit.specs.Constraint.{Place, Occurrence, firstOf, Constraint, closedAt, sameAt}
+use Rattle.fit.specs.Front.{rootArguments}
 use Rattle.fit.specs.Match.{leftIn}
 use Rattle.tree.specs.Path.{Uncovered, OnPath, placeNumbered}
 use Rattle.tree.specs.Rows.{RuleRow, has}
 use Rattle.tree.specs.told.Covered.{Covered, numberedAs, isOpen}
-use Rattle.tree.specs.Compile.{rowThen, compile}
+use Rattle.tree.specs.Compile.{compile}
 use Rattle.tree.specs.Layout.{long, layout}
-use Rattle.compiler.specs.told.Tables.{isFree, headKind}
+use Rattle.compiler.specs.told.Tables.{isFree, rootHas, headKind}
 
 -- ---- the rows that are not struck, from number r on
-abbrev pub rowIf : Bool → ℕ → Option Rule → List RuleRow → List RuleRow
-rowIf true r o rows = rowThen r o rows
-rowIf false r o rows = rows
+-- a rule as a row, where the root has so many arguments
+abbrev pub rowWith : ℕ → ℕ → Rule → RuleRow
+rowWith a r rule = record { number = r; vars = rule .vars; left = leftIn rule; aside = a - rootArguments (leftIn rule) }
+
+abbrev pub rowIf : Bool → ℕ → ℕ → Option Rule → List RuleRow → List RuleRow
+rowIf true a r none rows = rows
+rowIf true a r (some rule) rows = rowWith a r rule ∷ rows
+rowIf false a r o rows = rows
 
 unfoldable pub rowsLeft : List ℕ → List ℕ → ℕ → ℕ → List RuleRow
 rowsLeft book marks r zero = []
-rowsLeft book marks r (suc more) = rowIf (isFree marks r) r (ruleAt book r) (rowsLeft book marks (suc r) more)
+rowsLeft book marks r (suc more) = rowIf (isFree marks r) (rootHas marks) r (ruleAt book r) (rowsLeft book marks (suc r) more)
 
 -- ---- a left side at its spots
 -- how many words a left side has
@@ -107,8 +113,9 @@ pub record Stands (book fixed nums marks : List ℕ) (count : ℕ) (path : OnPat
   pub once : (n m : ℕ) → n < count → m < count → placeNumbered n (path .uncovered) ≡ placeNumbered m (path .uncovered) → n ≡ m
   pub new : (n i : ℕ) → isOpen n (path .uncovered) ≡ true → numberedAs (i ∷ placeNumbered n (path .uncovered)) (path .uncovered) ≡ 0
   pub above : (i j : ℕ) (p : Place) → numberedAs (j ∷ p) (path .uncovered) ≡ 0 → numberedAs (i ∷ j ∷ p) (path .uncovered) ≡ 0
-  -- each number is that of some spot: there are at most 4,096 places
-  pub used : (n : ℕ) → n < count → (k : ℕ) × (k < 4096) × (getD nums k 0 ≡ suc n)
+  -- the root's number is 0 in every row, and each number over 15 is that of some spot: there are at most 4,096 places
+  pub roots : (r : ℕ) → r < 64 → getD nums (r * 64) 0 ≡ 1
+  pub used : (n : ℕ) → 15 < n → n < count → (k : ℕ) × (k < 4096) × (getD nums k 0 ≡ suc n)
   pub most : (k : ℕ) → getD nums k 0 ≤ count
   pub absent : (r : ℕ) → r < 64 → ruleAt book r ≡ none → isFree marks r ≡ false
   pub rows : (r : ℕ) (rule : Rule) → r < 64 → isFree marks r ≡ true → ruleAt book r ≡ some rule → RowStands fixed nums marks path r (rule .vars) (leftIn rule)
@@ -122,11 +129,12 @@ TreeTold book fixed nums marks limit count at out done Stuck =
     (path : OnPath) → Stands book fixed nums marks count path → limit < at + long (compile path (rowsLeft book marks 0 64))
 
 -- ---- the cycle of calls that makes a tree
--- what it needs: tables of their sizes that stand for some path, and marks older than those of a node at this address
+-- what it needs: tables of their sizes that stand for some path on which the root was entered, and marks older than those of a node at this address
 pub record TreeReady (fixed nums marks : List ℕ) (limit count at : ℕ) : Type 0 where
   pub sizes : (length fixed ≡ 8256) × (length nums ≡ 4096) × (length marks ≡ 12352)
   pub within : (limit ≤ 16384) × (at ≤ limit + 5000)
-  pub older : (k : ℕ) → getD marks k 0 < at + 2
+  pub older : (k : ℕ) → getD marks k 0 < at + 17
+  pub inner : isFree marks 64 ≡ false
   pub book : List ℕ
   pub path : OnPath
   pub stands : Stands book fixed nums marks count path

@@ -59,6 +59,10 @@ ofFreeRow marks from k = pick (ltb k from) false (pick (ltb k (from + 4096)) (is
 unfoldable pub firstRow : List ℕ → ℕ
 firstRow marks = firstAt (isFree marks) 0 64
 
+-- how many arguments the root has: its mark is one more
+abbrev pub rootHas : List ℕ → ℕ
+rootHas marks = getD marks 64 0 - 1
+
 -- ---- sub-patterns at places
 -- the spot of a rule at the place with this number, 4096 where it has none there
 abbrev pub spotIn : ℕ → ℕ → ℕ
@@ -248,8 +252,12 @@ unfoldable pub leafFrom : List ℕ → List ℕ → ℕ → ℕ → ℕ → List
 leafFrom fixed nums r x zero = []
 leafFrom fixed nums r x (suc more) = occurrenceWords fixed nums (variableSpot fixed r x) ++ leafFrom fixed nums r (suc x) more
 
-unfoldable pub leafWords : List ℕ → List ℕ → ℕ → List ℕ
-leafWords fixed nums r = 1 ∷ r ∷ getD fixed (8192 + r) 0 ∷ leafFrom fixed nums r 0 (getD fixed (8192 + r) 0)
+-- how many arguments of the root are set aside for row r
+abbrev pub asideAt : List ℕ → List ℕ → ℕ → ℕ
+asideAt fixed marks r = rootHas marks - sizeAt fixed (r * 64)
+
+unfoldable pub leafWords : List ℕ → List ℕ → List ℕ → ℕ → List ℕ
+leafWords fixed nums marks r = 1 ∷ r ∷ getD fixed (8192 + r) 0 ∷ asideAt fixed marks r ∷ leafFrom fixed nums r 0 (getD fixed (8192 + r) 0)
 
 -- a test up to its addresses
 abbrev pub sameWordsOf : List ℕ → List ℕ → ℕ → ℕ → List ℕ

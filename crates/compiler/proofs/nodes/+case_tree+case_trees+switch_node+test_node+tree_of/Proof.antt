@@ -344,7 +344,7 @@ switch-node-add-case-trees t c =
 switch-node-case-trees-requires : (t : ℕ) → switch-node-lts.Need-case-trees-requires (switch-node-calls t) (switch-node-at t) switch-node.Post
 switch-node-case-trees-requires t c κs =
     let start = c .before .before .before .before .before .before .before .before .before .before .before .before .before .before .before .before .before .before .before .before .before .before in
-    let s = start .args in let p = start .pre in (omega (arith, p .0), cases-needs (s .fixed .now) (s .nums .now) (s .marks .now) (s .limit) (s .count) (s .at) (s .n) (p .1) (s .at + 2) refl (s .out .now) _ (c .before .before .before .before .before .before .before .before .before .before .before .before .before .before .before .count-heads .ensures))
+    let s = start .args in let p = start .pre in (omega (arith, p .0), cases-needs (s .fixed .now) (s .nums .now) (s .marks .now) (s .limit) (s .count) (s .at) (s .n) (p .1) (s .at + 17) refl (s .out .now) _ (c .before .before .before .before .before .before .before .before .before .before .before .before .before .before .before .count-heads .ensures))
 
 switch-node-same-length : (t : ℕ) → switch-node-lts.Need-same-length (switch-node-calls t) (switch-node-at t) switch-node.Post
 switch-node-same-length t c =
@@ -361,7 +361,7 @@ switch-node-same-length-3 t c =
 switch-node-returns : (t : ℕ) → switch-node-lts.Need-returns (switch-node-calls t) (switch-node-at t) switch-node.Post
 switch-node-returns t c =
     let start = c .before .before .before .before .before .before .before .before .before .before .before .before .before .before .before .before .before .before .before .before .before .before .before .before .before .before .before .before .before .before .before in
-    let s = start .args in let p = start .pre in (switch-cases-over (s .fixed .now) (s .nums .now) (s .marks .now) (s .limit) (s .count) (s .at) (s .n) (p .1) (s .at + 2) refl (s .out .now) _ (c .before .before .before .before .before .before .before .before .before .before .before .before .before .before .before .before .before .before .before .before .before .before .before .before .count-heads .ensures) _ _ _ _ _ _ (c .before .before .before .before .before .before .before .before .before .before .before .before .before .before .before .before .before .before .before .before .before .before .put .ensures) (c .before .before .before .before .before .before .before .before .before .before .before .before .before .before .before .before .before .before .put2 .ensures) (c .before .before .before .before .before .before .before .before .before .before .before .before .before .before .put3 .ensures) _ (c .before .before .before .before .before .before .before .before .case-trees .ensures) (c .enum-told .given .1), tt)
+    let s = start .args in let p = start .pre in (switch-cases-over (s .fixed .now) (s .nums .now) (s .marks .now) (s .limit) (s .count) (s .at) (s .n) (p .1) (s .at + 17) refl (s .out .now) _ (c .before .before .before .before .before .before .before .before .before .before .before .before .before .before .before .before .before .before .before .before .before .before .before .before .count-heads .ensures) _ _ _ _ _ _ (c .before .before .before .before .before .before .before .before .before .before .before .before .before .before .before .before .before .before .before .before .before .before .put .ensures) (c .before .before .before .before .before .before .before .before .before .before .before .before .before .before .before .before .before .before .put2 .ensures) (c .before .before .before .before .before .before .before .before .before .before .before .before .before .before .put3 .ensures) _ (c .before .before .before .before .before .before .before .before .case-trees .ensures) (c .enum-told .given .1), tt)
 
 switch-node-drop-others-requires : (t : ℕ) → switch-node-lts.Need-drop-others-requires (switch-node-calls t) (switch-node-at t) switch-node.Post
 switch-node-drop-others-requires t c κs =
@@ -372,13 +372,13 @@ switch-node-drop-others-requires t c κs =
     let far4 = c .before .before .before .before .before .before .before .before .before .before .before .before .before .before .before .before .before in
     let far5 = c .before .before .before .before .before .before .before .before .before .before .before in
     let far6 = c .before .before .before in
-    let s = start .args in let p = start .pre in (p .1 .ready .sizes .0, nums-size (s .fixed .now) (s .nums .now) (s .marks .now) (s .limit) (s .count) (s .at) (s .n) (p .1) (s .at + 2) refl (s .out .now) _ (far .count-heads .ensures) _ _ _ _ _ _ (far2 .put .ensures) (far3 .put2 .ensures) (far4 .put3 .ensures) _ (far5 .case-trees .ensures) _ (far6 .next .given .1) ∙ p .1 .ready .sizes .1, cases-size (s .fixed .now) (s .nums .now) (s .marks .now) (s .limit) (s .count) (s .at) (s .n) (p .1) (s .at + 2) refl (s .out .now) _ (far .count-heads .ensures) _ _ _ _ _ _ (far2 .put .ensures) (far3 .put2 .ensures) (far4 .put3 .ensures) _ (far5 .case-trees .ensures) _ (far6 .next .given .1) ∙ p .1 .ready .sizes .2, place-small (s .fixed .now) (s .nums .now) (s .marks .now) (s .limit) (s .count) (s .at) (s .n) (p .1))
+    let s = start .args in let p = start .pre in (p .1 .ready .sizes .0, nums-size (s .fixed .now) (s .nums .now) (s .marks .now) (s .limit) (s .count) (s .at) (s .n) (p .1) (s .at + 17) refl (s .out .now) _ (far .count-heads .ensures) _ _ _ _ _ _ (far2 .put .ensures) (far3 .put2 .ensures) (far4 .put3 .ensures) _ (far5 .case-trees .ensures) _ (far6 .next .given .1) ∙ p .1 .ready .sizes .1, cases-size (s .fixed .now) (s .nums .now) (s .marks .now) (s .limit) (s .count) (s .at) (s .n) (p .1) (s .at + 17) refl (s .out .now) _ (far .count-heads .ensures) _ _ _ _ _ _ (far2 .put .ensures) (far3 .put2 .ensures) (far4 .put3 .ensures) _ (far5 .case-trees .ensures) _ (far6 .next .given .1) ∙ p .1 .ready .sizes .2, place-small (s .fixed .now) (s .nums .now) (s .marks .now) (s .limit) (s .count) (s .at) (s .n) (p .1))
 
 switch-node-tree-of-requires : (t : ℕ) → switch-node-lts.Need-tree-of-requires (switch-node-calls t) (switch-node-at t) switch-node.Post
 switch-node-tree-of-requires t c κs =
     let start = c .before .before .before .before .before .before .before .before .before .before .before .before .before .before .before .before .before .before .before .before .before .before .before .before .before .before .before .before .before .before .before .before .before .before .before .before .before .before .before .before in
     let far = c .before .before .before .before .before in
-    let s = start .args in let p = start .pre in let x = default-needs (s .fixed .now) (s .nums .now) (s .marks .now) (s .limit) (s .count) (s .at) (s .n) (p .1) (s .at + 2) refl (s .out .now) _ (c .before .before .before .before .before .before .before .before .before .before .before .before .before .before .before .before .before .before .before .before .before .before .before .before .before .before .before .before .before .before .before .before .before .count-heads .ensures) _ _ _ _ _ _ (c .before .before .before .before .before .before .before .before .before .before .before .before .before .before .before .before .before .before .before .before .before .before .before .before .before .before .before .before .before .before .before .put .ensures) (c .before .before .before .before .before .before .before .before .before .before .before .before .before .before .before .before .before .before .before .before .before .before .before .before .before .before .before .put2 .ensures) (c .before .before .before .before .before .before .before .before .before .before .before .before .before .before .before .before .before .before .before .before .before .before .before .put3 .ensures) _ (c .before .before .before .before .before .before .before .before .before .before .before .before .before .before .before .before .before .case-trees .ensures) _ (c .before .before .before .before .before .before .before .before .before .next .given .1) _ (far .drop-others .kept .1 .1 .0) (far .drop-others .ensures) in (omega (arith, p .0, x .0), x .1)
+    let s = start .args in let p = start .pre in let x = default-needs (s .fixed .now) (s .nums .now) (s .marks .now) (s .limit) (s .count) (s .at) (s .n) (p .1) (s .at + 17) refl (s .out .now) _ (c .before .before .before .before .before .before .before .before .before .before .before .before .before .before .before .before .before .before .before .before .before .before .before .before .before .before .before .before .before .before .before .before .before .count-heads .ensures) _ _ _ _ _ _ (c .before .before .before .before .before .before .before .before .before .before .before .before .before .before .before .before .before .before .before .before .before .before .before .before .before .before .before .before .before .before .before .put .ensures) (c .before .before .before .before .before .before .before .before .before .before .before .before .before .before .before .before .before .before .before .before .before .before .before .before .before .before .before .put2 .ensures) (c .before .before .before .before .before .before .before .before .before .before .before .before .before .before .before .before .before .before .before .before .before .before .before .put3 .ensures) _ (c .before .before .before .before .before .before .before .before .before .before .before .before .before .before .before .before .before .case-trees .ensures) _ (c .before .before .before .before .before .before .before .before .before .next .given .1) _ (far .drop-others .kept .1 .1 .0) (far .drop-others .ensures) in (omega (arith, p .0, x .0), x .1)
 
 switch-node-same-length-4 : (t : ℕ) → switch-node-lts.Need-same-length-4 (switch-node-calls t) (switch-node-at t) switch-node.Post
 switch-node-same-length-4 t c =
@@ -396,7 +396,7 @@ switch-node-returns-2 : (t : ℕ) → switch-node-lts.Need-returns-2 (switch-nod
 switch-node-returns-2 t c =
     let start = c .before .before .before .before .before .before .before .before .before .before .before .before .before .before .before .before .before .before .before .before .before .before .before .before .before .before .before .before .before .before .before .before .before .before .before .before .before .before .before .before .before .before .before .before .before .before .before .before .before in
     let far = c .before .before .before .before .before .before .before .before .before .before .before .before .before .before in
-    let s = start .args in let p = start .pre in (switch-default-over (s .fixed .now) (s .nums .now) (s .marks .now) (s .limit) (s .count) (s .at) (s .n) (p .1) (s .at + 2) refl (s .out .now) _ (c .before .before .before .before .before .before .before .before .before .before .before .before .before .before .before .before .before .before .before .before .before .before .before .before .before .before .before .before .before .before .before .before .before .before .before .before .before .before .before .before .before .before .count-heads .ensures) _ _ _ _ _ _ (c .before .before .before .before .before .before .before .before .before .before .before .before .before .before .before .before .before .before .before .before .before .before .before .before .before .before .before .before .before .before .before .before .before .before .before .before .before .before .before .before .put .ensures) (c .before .before .before .before .before .before .before .before .before .before .before .before .before .before .before .before .before .before .before .before .before .before .before .before .before .before .before .before .before .before .before .before .before .before .before .before .put2 .ensures) (c .before .before .before .before .before .before .before .before .before .before .before .before .before .before .before .before .before .before .before .before .before .before .before .before .before .before .before .before .before .before .before .before .put3 .ensures) _ (c .before .before .before .before .before .before .before .before .before .before .before .before .before .before .before .before .before .before .before .before .before .before .before .before .before .before .case-trees .ensures) _ (c .before .before .before .before .before .before .before .before .before .before .before .before .before .before .before .before .before .before .next .given .1) _ (far .drop-others .kept .1 .1 .0) (far .drop-others .ensures) _ _ _ _ (c .before .before .before .before .before .before .before .before .tree-of .ensures) (c .enum-told2 .given .1), tt)
+    let s = start .args in let p = start .pre in (switch-default-over (s .fixed .now) (s .nums .now) (s .marks .now) (s .limit) (s .count) (s .at) (s .n) (p .1) (s .at + 17) refl (s .out .now) _ (c .before .before .before .before .before .before .before .before .before .before .before .before .before .before .before .before .before .before .before .before .before .before .before .before .before .before .before .before .before .before .before .before .before .before .before .before .before .before .before .before .before .before .count-heads .ensures) _ _ _ _ _ _ (c .before .before .before .before .before .before .before .before .before .before .before .before .before .before .before .before .before .before .before .before .before .before .before .before .before .before .before .before .before .before .before .before .before .before .before .before .before .before .before .before .put .ensures) (c .before .before .before .before .before .before .before .before .before .before .before .before .before .before .before .before .before .before .before .before .before .before .before .before .before .before .before .before .before .before .before .before .before .before .before .before .put2 .ensures) (c .before .before .before .before .before .before .before .before .before .before .before .before .before .before .before .before .before .before .before .before .before .before .before .before .before .before .before .before .before .before .before .before .put3 .ensures) _ (c .before .before .before .before .before .before .before .before .before .before .before .before .before .before .before .before .before .before .before .before .before .before .before .before .before .before .case-trees .ensures) _ (c .before .before .before .before .before .before .before .before .before .before .before .before .before .before .before .before .before .before .next .given .1) _ (far .drop-others .kept .1 .1 .0) (far .drop-others .ensures) _ _ _ _ (c .before .before .before .before .before .before .before .before .tree-of .ensures) (c .enum-told2 .given .1), tt)
 
 switch-node-unmark-requires : (t : ℕ) → switch-node-lts.Need-unmark-requires (switch-node-calls t) (switch-node-at t) switch-node.Post
 switch-node-unmark-requires t c κs =
@@ -419,7 +419,7 @@ switch-node-returns-3 t c =
     let start = c .before .before .before .before .before .before .before .before .before .before .before .before .before .before .before .before .before .before .before .before .before .before .before .before .before .before .before .before .before .before .before .before .before .before .before .before .before .before .before .before .before .before .before .before .before .before .before .before .before .before .before .before .before .before in
     let far = c .before .before .before .before .before .before .before .before .before .before .before .before .before .before .before .before .before .before .before in
     let far2 = c .before .before in
-    let s = start .args in let p = start .pre in switch-done (s .fixed .now) (s .nums .now) (s .marks .now) (s .limit) (s .count) (s .at) (s .n) (p .1) (s .at + 2) refl (s .out .now) _ (c .before .before .before .before .before .before .before .before .before .before .before .before .before .before .before .before .before .before .before .before .before .before .before .before .before .before .before .before .before .before .before .before .before .before .before .before .before .before .before .before .before .before .before .before .before .before .before .count-heads .ensures) _ _ _ _ _ _ (c .before .before .before .before .before .before .before .before .before .before .before .before .before .before .before .before .before .before .before .before .before .before .before .before .before .before .before .before .before .before .before .before .before .before .before .before .before .before .before .before .before .before .before .before .before .put .ensures) (c .before .before .before .before .before .before .before .before .before .before .before .before .before .before .before .before .before .before .before .before .before .before .before .before .before .before .before .before .before .before .before .before .before .before .before .before .before .before .before .before .before .put2 .ensures) (c .before .before .before .before .before .before .before .before .before .before .before .before .before .before .before .before .before .before .before .before .before .before .before .before .before .before .before .before .before .before .before .before .before .before .before .before .before .put3 .ensures) _ (c .before .before .before .before .before .before .before .before .before .before .before .before .before .before .before .before .before .before .before .before .before .before .before .before .before .before .before .before .before .before .before .case-trees .ensures) _ (c .before .before .before .before .before .before .before .before .before .before .before .before .before .before .before .before .before .before .before .before .before .before .before .next .given .1) _ (far .drop-others .kept .1 .1 .0) (far .drop-others .ensures) _ _ _ _ (c .before .before .before .before .before .before .before .before .before .before .before .before .before .tree-of .ensures) _ (c .before .before .before .before .before .end .given .1) _ (far2 .unmark .kept .0) (far2 .unmark .ensures)
+    let s = start .args in let p = start .pre in switch-done (s .fixed .now) (s .nums .now) (s .marks .now) (s .limit) (s .count) (s .at) (s .n) (p .1) (s .at + 17) refl (s .out .now) _ (c .before .before .before .before .before .before .before .before .before .before .before .before .before .before .before .before .before .before .before .before .before .before .before .before .before .before .before .before .before .before .before .before .before .before .before .before .before .before .before .before .before .before .before .before .before .before .before .count-heads .ensures) _ _ _ _ _ _ (c .before .before .before .before .before .before .before .before .before .before .before .before .before .before .before .before .before .before .before .before .before .before .before .before .before .before .before .before .before .before .before .before .before .before .before .before .before .before .before .before .before .before .before .before .before .put .ensures) (c .before .before .before .before .before .before .before .before .before .before .before .before .before .before .before .before .before .before .before .before .before .before .before .before .before .before .before .before .before .before .before .before .before .before .before .before .before .before .before .before .before .put2 .ensures) (c .before .before .before .before .before .before .before .before .before .before .before .before .before .before .before .before .before .before .before .before .before .before .before .before .before .before .before .before .before .before .before .before .before .before .before .before .before .put3 .ensures) _ (c .before .before .before .before .before .before .before .before .before .before .before .before .before .before .before .before .before .before .before .before .before .before .before .before .before .before .before .before .before .before .before .case-trees .ensures) _ (c .before .before .before .before .before .before .before .before .before .before .before .before .before .before .before .before .before .before .before .before .before .before .before .next .given .1) _ (far .drop-others .kept .1 .1 .0) (far .drop-others .ensures) _ _ _ _ (c .before .before .before .before .before .before .before .before .before .before .before .before .before .tree-of .ensures) _ (c .before .before .before .before .before .end .given .1) _ (far2 .unmark .kept .0) (far2 .unmark .ensures)
 
 test-node-cast-mark : (t : ℕ) → test-node-lts.Need-cast-mark (test-node-calls t) (test-node-at t) test-node.Post
 test-node-cast-mark t c =
@@ -439,12 +439,12 @@ test-node-put-front-requires t c κs =
 test-node-cast-put : (t : ℕ) → test-node-lts.Need-cast-put (test-node-calls t) (test-node-at t) test-node.Post
 test-node-cast-put t c =
     let start = c .before .before .before .before .before .before .before .before .before .before in
-    let s = start .args in let p = start .pre in omega (arith, p .1 .ready .within .0, slot-most (s .fixed .now) (s .nums .now) (s .marks .now) (s .limit) (s .count) (s .at) (s .id) (p .1) (s .at + 2) refl (s .out .now) _ (c .before .before .before .put-front .ensures .1))
+    let s = start .args in let p = start .pre in omega (arith, p .1 .ready .within .0, slot-most (s .fixed .now) (s .nums .now) (s .marks .now) (s .limit) (s .count) (s .at) (s .id) (p .1) (s .at + 17) refl (s .out .now) _ (c .before .before .before .put-front .ensures .1))
 
 test-node-add-put : (t : ℕ) → test-node-lts.Need-add-put (test-node-calls t) (test-node-at t) test-node.Post
 test-node-add-put t c =
     let start = c .before .before .before .before .before .before .before .before .before .before in
-    let s = start .args in let p = start .pre in omega (arith, p .1 .ready .within .0, slot-most (s .fixed .now) (s .nums .now) (s .marks .now) (s .limit) (s .count) (s .at) (s .id) (p .1) (s .at + 2) refl (s .out .now) _ (c .before .before .before .put-front .ensures .1))
+    let s = start .args in let p = start .pre in omega (arith, p .1 .ready .within .0, slot-most (s .fixed .now) (s .nums .now) (s .marks .now) (s .limit) (s .count) (s .at) (s .id) (p .1) (s .at + 17) refl (s .out .now) _ (c .before .before .before .put-front .ensures .1))
 
 test-node-strike-requires : (t : ℕ) → test-node-lts.Need-strike-requires (test-node-calls t) (test-node-at t) test-node.Post
 test-node-strike-requires t c κs =
@@ -454,14 +454,14 @@ test-node-strike-requires t c κs =
 test-node-add-tree-of : (t : ℕ) → test-node-lts.Need-add-tree-of (test-node-calls t) (test-node-at t) test-node.Post
 test-node-add-tree-of t c =
     let start = c .before .before .before .before .before .before .before .before .before .before .before .before .before .before .before .before .before .before .before .before .before in
-    let s = start .args in let p = start .pre in omega (arith, p .1 .ready .within .0, slot-most (s .fixed .now) (s .nums .now) (s .marks .now) (s .limit) (s .count) (s .at) (s .id) (p .1) (s .at + 2) refl (s .out .now) _ (c .before .before .before .before .before .before .before .before .before .before .before .before .before .before .put-front .ensures .1))
+    let s = start .args in let p = start .pre in omega (arith, p .1 .ready .within .0, slot-most (s .fixed .now) (s .nums .now) (s .marks .now) (s .limit) (s .count) (s .at) (s .id) (p .1) (s .at + 17) refl (s .out .now) _ (c .before .before .before .before .before .before .before .before .before .before .before .before .before .before .put-front .ensures .1))
 
 test-node-tree-of-requires : (t : ℕ) → test-node-lts.Need-tree-of-requires (test-node-calls t) (test-node-at t) test-node.Post
 test-node-tree-of-requires t c κs =
     let start = c .before .before .before .before .before .before .before .before .before .before .before .before .before .before .before .before .before .before .before .before .before in
     let far = c .before .before .before .before .before .before .before .before .before .before .before .before .before .before in
     let far2 = c .before .before .before .before .before in
-    let s = start .args in let p = start .pre in let x = yes-needs (s .fixed .now) (s .nums .now) (s .marks .now) (s .limit) (s .count) (s .at) (s .id) (p .1) (s .at + 2) refl (s .out .now) _ (far .put-front .ensures .1) _ _ _ (far .put-front .ensures .0) (c .before .before .before .before .before .before .before .before .before .before .put .ensures) (far2 .strike .kept .1 .1 .0) (far2 .strike .ensures) in (omega (arith, p .0, x .0), x .1)
+    let s = start .args in let p = start .pre in let x = yes-needs (s .fixed .now) (s .nums .now) (s .marks .now) (s .limit) (s .count) (s .at) (s .id) (p .1) (s .at + 17) refl (s .out .now) _ (far .put-front .ensures .1) _ _ _ (far .put-front .ensures .0) (c .before .before .before .before .before .before .before .before .before .before .put .ensures) (far2 .strike .kept .1 .1 .0) (far2 .strike .ensures) in (omega (arith, p .0, x .0), x .1)
 
 test-node-same-length : (t : ℕ) → test-node-lts.Need-same-length (test-node-calls t) (test-node-at t) test-node.Post
 test-node-same-length t c =
@@ -480,7 +480,7 @@ test-node-returns t c =
     let start = c .before .before .before .before .before .before .before .before .before .before .before .before .before .before .before .before .before .before .before .before .before .before .before .before .before .before .before .before .before .before in
     let far = c .before .before .before .before .before .before .before .before .before .before .before .before .before .before .before .before .before .before .before .before .before .before .before in
     let far2 = c .before .before .before .before .before .before .before .before .before .before .before .before .before .before in
-    let s = start .args in let p = start .pre in (yes-over (s .fixed .now) (s .nums .now) (s .marks .now) (s .limit) (s .count) (s .at) (s .id) (p .1) (s .at + 2) refl (s .out .now) _ (far .put-front .ensures .1) _ _ _ (far .put-front .ensures .0) (c .before .before .before .before .before .before .before .before .before .before .before .before .before .before .before .before .before .before .before .put .ensures) (far2 .strike .kept .1 .1 .0) (far2 .strike .ensures) _ _ _ _ (c .before .before .before .before .before .before .before .before .tree-of .ensures) (c .enum-told .given .1), tt)
+    let s = start .args in let p = start .pre in (yes-over (s .fixed .now) (s .nums .now) (s .marks .now) (s .limit) (s .count) (s .at) (s .id) (p .1) (s .at + 17) refl (s .out .now) _ (far .put-front .ensures .1) _ _ _ (far .put-front .ensures .0) (c .before .before .before .before .before .before .before .before .before .before .before .before .before .before .before .before .before .before .before .put .ensures) (far2 .strike .kept .1 .1 .0) (far2 .strike .ensures) _ _ _ _ (c .before .before .before .before .before .before .before .before .tree-of .ensures) (c .enum-told .given .1), tt)
 
 test-node-unstrike-requires : (t : ℕ) → test-node-lts.Need-unstrike-requires (test-node-calls t) (test-node-at t) test-node.Post
 test-node-unstrike-requires t c κs =
@@ -489,7 +489,7 @@ test-node-unstrike-requires t c κs =
 test-node-add-put-2 : (t : ℕ) → test-node-lts.Need-add-put-2 (test-node-calls t) (test-node-at t) test-node.Post
 test-node-add-put-2 t c =
     let start = c .before .before .before .before .before .before .before .before .before .before .before .before .before .before .before .before .before .before .before .before .before .before .before .before .before .before .before .before .before .before .before .before .before .before .before .before in
-    let s = start .args in let p = start .pre in omega (arith, p .1 .ready .within .0, slot-most (s .fixed .now) (s .nums .now) (s .marks .now) (s .limit) (s .count) (s .at) (s .id) (p .1) (s .at + 2) refl (s .out .now) _ (c .before .before .before .before .before .before .before .before .before .before .before .before .before .before .before .before .before .before .before .before .before .before .before .before .before .before .before .before .before .put-front .ensures .1))
+    let s = start .args in let p = start .pre in omega (arith, p .1 .ready .within .0, slot-most (s .fixed .now) (s .nums .now) (s .marks .now) (s .limit) (s .count) (s .at) (s .id) (p .1) (s .at + 17) refl (s .out .now) _ (c .before .before .before .before .before .before .before .before .before .before .before .before .before .before .before .before .before .before .before .before .before .before .before .before .before .before .before .before .before .put-front .ensures .1))
 
 test-node-cast-put-2 : (t : ℕ) → test-node-lts.Need-cast-put-2 (test-node-calls t) (test-node-at t) test-node.Post
 test-node-cast-put-2 t c =
@@ -497,7 +497,7 @@ test-node-cast-put-2 t c =
     let far = c .before .before .before .before .before .before .before .before .before .before .before .before .before .before .before .before .before .before .before .before .before .before .before .before .before .before .before .before .before in
     let far2 = c .before .before .before .before .before .before .before .before .before .before .before .before .before .before .before .before .before .before .before .before in
     let far3 = c .before .before .before in
-    let s = start .args in let p = start .pre in omega (arith, p .1 .ready .within .0, next-most (s .fixed .now) (s .nums .now) (s .marks .now) (s .limit) (s .count) (s .at) (s .id) (p .1) (s .at + 2) refl (s .out .now) _ (far .put-front .ensures .1) _ _ _ (far .put-front .ensures .0) (c .before .before .before .before .before .before .before .before .before .before .before .before .before .before .before .before .before .before .before .before .before .before .before .before .before .put .ensures) (far2 .strike .kept .1 .1 .0) (far2 .strike .ensures) _ _ _ _ (c .before .before .before .before .before .before .before .before .before .before .before .before .before .before .tree-of .ensures) _ (c .before .before .before .before .before .before .next .given .1) _ (far3 .unstrike .kept .0) (far3 .unstrike .ensures))
+    let s = start .args in let p = start .pre in omega (arith, p .1 .ready .within .0, next-most (s .fixed .now) (s .nums .now) (s .marks .now) (s .limit) (s .count) (s .at) (s .id) (p .1) (s .at + 17) refl (s .out .now) _ (far .put-front .ensures .1) _ _ _ (far .put-front .ensures .0) (c .before .before .before .before .before .before .before .before .before .before .before .before .before .before .before .before .before .before .before .before .before .before .before .before .before .put .ensures) (far2 .strike .kept .1 .1 .0) (far2 .strike .ensures) _ _ _ _ (c .before .before .before .before .before .before .before .before .before .before .before .before .before .before .tree-of .ensures) _ (c .before .before .before .before .before .before .next .given .1) _ (far3 .unstrike .kept .0) (far3 .unstrike .ensures))
 
 test-node-drop-having-requires : (t : ℕ) → test-node-lts.Need-drop-having-requires (test-node-calls t) (test-node-at t) test-node.Post
 test-node-drop-having-requires t c κs =
@@ -512,7 +512,7 @@ test-node-tree-of-requires-2 t c κs =
     let far2 = c .before .before .before .before .before .before .before .before .before .before .before .before .before .before .before .before .before .before .before .before .before .before .before .before .before .before .before .before .before .before .before in
     let far3 = c .before .before .before .before .before .before .before .before .before .before .before .before .before .before in
     let far4 = c .before .before .before .before .before in
-    let s = start .args in let p = start .pre in let x = no-needs (s .fixed .now) (s .nums .now) (s .marks .now) (s .limit) (s .count) (s .at) (s .id) (p .1) (s .at + 2) refl (s .out .now) _ (far .put-front .ensures .1) _ _ _ (far .put-front .ensures .0) (c .before .before .before .before .before .before .before .before .before .before .before .before .before .before .before .before .before .before .before .before .before .before .before .before .before .before .before .before .before .before .before .before .before .before .before .before .put .ensures) (far2 .strike .kept .1 .1 .0) (far2 .strike .ensures) _ _ _ _ (c .before .before .before .before .before .before .before .before .before .before .before .before .before .before .before .before .before .before .before .before .before .before .before .before .before .tree-of .ensures) _ (c .before .before .before .before .before .before .before .before .before .before .before .before .before .before .before .before .before .next .given .1) _ (far3 .unstrike .kept .0) (far3 .unstrike .ensures) _ _ (c .before .before .before .before .before .before .before .before .before .before .put2 .ensures) (far4 .drop-having .kept .1 .1 .0) (far4 .drop-having .ensures) in (omega (arith, p .0, x .0), x .1)
+    let s = start .args in let p = start .pre in let x = no-needs (s .fixed .now) (s .nums .now) (s .marks .now) (s .limit) (s .count) (s .at) (s .id) (p .1) (s .at + 17) refl (s .out .now) _ (far .put-front .ensures .1) _ _ _ (far .put-front .ensures .0) (c .before .before .before .before .before .before .before .before .before .before .before .before .before .before .before .before .before .before .before .before .before .before .before .before .before .before .before .before .before .before .before .before .before .before .before .before .put .ensures) (far2 .strike .kept .1 .1 .0) (far2 .strike .ensures) _ _ _ _ (c .before .before .before .before .before .before .before .before .before .before .before .before .before .before .before .before .before .before .before .before .before .before .before .before .before .tree-of .ensures) _ (c .before .before .before .before .before .before .before .before .before .before .before .before .before .before .before .before .before .next .given .1) _ (far3 .unstrike .kept .0) (far3 .unstrike .ensures) _ _ (c .before .before .before .before .before .before .before .before .before .before .put2 .ensures) (far4 .drop-having .kept .1 .1 .0) (far4 .drop-having .ensures) in (omega (arith, p .0, x .0), x .1)
 
 test-node-same-length-4 : (t : ℕ) → test-node-lts.Need-same-length-4 (test-node-calls t) (test-node-at t) test-node.Post
 test-node-same-length-4 t c =
@@ -533,7 +533,7 @@ test-node-returns-2 t c =
     let far2 = c .before .before .before .before .before .before .before .before .before .before .before .before .before .before .before .before .before .before .before .before .before .before .before .before .before .before .before .before .before .before .before .before .before .before .before .before .before .before .before .before in
     let far3 = c .before .before .before .before .before .before .before .before .before .before .before .before .before .before .before .before .before .before .before .before .before .before .before in
     let far4 = c .before .before .before .before .before .before .before .before .before .before .before .before .before .before in
-    let s = start .args in let p = start .pre in (no-over (s .fixed .now) (s .nums .now) (s .marks .now) (s .limit) (s .count) (s .at) (s .id) (p .1) (s .at + 2) refl (s .out .now) _ (far .put-front .ensures .1) _ _ _ (far .put-front .ensures .0) (c .before .before .before .before .before .before .before .before .before .before .before .before .before .before .before .before .before .before .before .before .before .before .before .before .before .before .before .before .before .before .before .before .before .before .before .before .before .before .before .before .before .before .before .before .before .put .ensures) (far2 .strike .kept .1 .1 .0) (far2 .strike .ensures) _ _ _ _ (c .before .before .before .before .before .before .before .before .before .before .before .before .before .before .before .before .before .before .before .before .before .before .before .before .before .before .before .before .before .before .before .before .before .before .tree-of .ensures) _ (c .before .before .before .before .before .before .before .before .before .before .before .before .before .before .before .before .before .before .before .before .before .before .before .before .before .before .next .given .1) _ (far3 .unstrike .kept .0) (far3 .unstrike .ensures) _ _ (c .before .before .before .before .before .before .before .before .before .before .before .before .before .before .before .before .before .before .before .put2 .ensures) (far4 .drop-having .kept .1 .1 .0) (far4 .drop-having .ensures) _ _ _ _ (c .before .before .before .before .before .before .before .before .tree-of2 .ensures) (c .enum-told2 .given .1), tt)
+    let s = start .args in let p = start .pre in (no-over (s .fixed .now) (s .nums .now) (s .marks .now) (s .limit) (s .count) (s .at) (s .id) (p .1) (s .at + 17) refl (s .out .now) _ (far .put-front .ensures .1) _ _ _ (far .put-front .ensures .0) (c .before .before .before .before .before .before .before .before .before .before .before .before .before .before .before .before .before .before .before .before .before .before .before .before .before .before .before .before .before .before .before .before .before .before .before .before .before .before .before .before .before .before .before .before .before .put .ensures) (far2 .strike .kept .1 .1 .0) (far2 .strike .ensures) _ _ _ _ (c .before .before .before .before .before .before .before .before .before .before .before .before .before .before .before .before .before .before .before .before .before .before .before .before .before .before .before .before .before .before .before .before .before .before .tree-of .ensures) _ (c .before .before .before .before .before .before .before .before .before .before .before .before .before .before .before .before .before .before .before .before .before .before .before .before .before .before .next .given .1) _ (far3 .unstrike .kept .0) (far3 .unstrike .ensures) _ _ (c .before .before .before .before .before .before .before .before .before .before .before .before .before .before .before .before .before .before .before .put2 .ensures) (far4 .drop-having .kept .1 .1 .0) (far4 .drop-having .ensures) _ _ _ _ (c .before .before .before .before .before .before .before .before .tree-of2 .ensures) (c .enum-told2 .given .1), tt)
 
 test-node-unmark-requires : (t : ℕ) → test-node-lts.Need-unmark-requires (test-node-calls t) (test-node-at t) test-node.Post
 test-node-unmark-requires t c κs =
@@ -559,7 +559,7 @@ test-node-returns-3 t c =
     let far3 = c .before .before .before .before .before .before .before .before .before .before .before .before .before .before .before .before .before .before .before .before .before .before .before .before .before .before .before .before in
     let far4 = c .before .before .before .before .before .before .before .before .before .before .before .before .before .before .before .before .before .before .before in
     let far5 = c .before .before in
-    let s = start .args in let p = start .pre in test-done (s .fixed .now) (s .nums .now) (s .marks .now) (s .limit) (s .count) (s .at) (s .id) (p .1) (s .at + 2) refl (s .out .now) _ (far .put-front .ensures .1) _ _ _ (far .put-front .ensures .0) (c .before .before .before .before .before .before .before .before .before .before .before .before .before .before .before .before .before .before .before .before .before .before .before .before .before .before .before .before .before .before .before .before .before .before .before .before .before .before .before .before .before .before .before .before .before .before .before .before .before .before .put .ensures) (far2 .strike .kept .1 .1 .0) (far2 .strike .ensures) _ _ _ _ (c .before .before .before .before .before .before .before .before .before .before .before .before .before .before .before .before .before .before .before .before .before .before .before .before .before .before .before .before .before .before .before .before .before .before .before .before .before .before .before .tree-of .ensures) _ (c .before .before .before .before .before .before .before .before .before .before .before .before .before .before .before .before .before .before .before .before .before .before .before .before .before .before .before .before .before .before .before .next .given .1) _ (far3 .unstrike .kept .0) (far3 .unstrike .ensures) _ _ (c .before .before .before .before .before .before .before .before .before .before .before .before .before .before .before .before .before .before .before .before .before .before .before .before .put2 .ensures) (far4 .drop-having .kept .1 .1 .0) (far4 .drop-having .ensures) _ _ _ _ (c .before .before .before .before .before .before .before .before .before .before .before .before .before .tree-of2 .ensures) _ (c .before .before .before .before .before .end .given .1) _ (far5 .unmark .kept .0) (far5 .unmark .ensures)
+    let s = start .args in let p = start .pre in test-done (s .fixed .now) (s .nums .now) (s .marks .now) (s .limit) (s .count) (s .at) (s .id) (p .1) (s .at + 17) refl (s .out .now) _ (far .put-front .ensures .1) _ _ _ (far .put-front .ensures .0) (c .before .before .before .before .before .before .before .before .before .before .before .before .before .before .before .before .before .before .before .before .before .before .before .before .before .before .before .before .before .before .before .before .before .before .before .before .before .before .before .before .before .before .before .before .before .before .before .before .before .before .put .ensures) (far2 .strike .kept .1 .1 .0) (far2 .strike .ensures) _ _ _ _ (c .before .before .before .before .before .before .before .before .before .before .before .before .before .before .before .before .before .before .before .before .before .before .before .before .before .before .before .before .before .before .before .before .before .before .before .before .before .before .before .tree-of .ensures) _ (c .before .before .before .before .before .before .before .before .before .before .before .before .before .before .before .before .before .before .before .before .before .before .before .before .before .before .before .before .before .before .before .next .given .1) _ (far3 .unstrike .kept .0) (far3 .unstrike .ensures) _ _ (c .before .before .before .before .before .before .before .before .before .before .before .before .before .before .before .before .before .before .before .before .before .before .before .before .put2 .ensures) (far4 .drop-having .kept .1 .1 .0) (far4 .drop-having .ensures) _ _ _ _ (c .before .before .before .before .before .before .before .before .before .before .before .before .before .tree-of2 .ensures) _ (c .before .before .before .before .before .end .given .1) _ (far5 .unmark .kept .0) (far5 .unmark .ensures)
 
 tree-of-returns : (t : ℕ) → tree-of-lts.Need-returns (tree-of-calls t) (tree-of-at t) tree-of.Post
 tree-of-returns t c =
@@ -642,16 +642,16 @@ tree-of-returns-4 t c =
 
 tree-of-put-leaf-requires : (t : ℕ) → tree-of-lts.Need-put-leaf-requires (tree-of-calls t) (tree-of-at t) tree-of.Post
 tree-of-put-leaf-requires t c κs =
-    let start = c .before .before .before .before .before .before .before .before .before .before .before .before .before .before .before .before .before in
-    let far = c .before .before .before .before .before .before .before .before .before .before in
-    let s = start .args in let p = start .pre in leaf-needs (s .fixed .now) (s .nums .now) (s .marks .now) (s .limit) (s .count) (s .at) (p .1) (s .out .now) (c .before .before .before .before .before .before .before .before .before .before .before .before .if1 .left) _ (far .first-row .ensures) (row-few (s .marks .now) _ (c .before .before .before .before .before .before .before .before .before .if2 .left) (far .first-row .ensures)) _ (c .before .before .before .before .before .before .lowest-open .ensures) (omega (arith, c .before .before .before .before .before .if3 .left)) _ (c .before .before .before .first-constraint .ensures)
+    let start = c .before .before .before .before .before .before .before .before .before .before .before .before .before .before .before .before .before .before in
+    let far = c .before .before .before .before .before .before .before .before .before .before .before in
+    let s = start .args in let p = start .pre in leaf-needs (s .fixed .now) (s .nums .now) (s .marks .now) (s .limit) (s .count) (s .at) (p .1) (s .out .now) (c .before .before .before .before .before .before .before .before .before .before .before .before .before .if1 .left) _ (far .first-row .ensures) (row-few (s .marks .now) _ (c .before .before .before .before .before .before .before .before .before .before .if2 .left) (far .first-row .ensures)) _ (c .before .before .before .before .before .before .before .lowest-open .ensures) (omega (arith, c .before .before .before .before .before .before .if3 .left)) _ (c .before .before .before .before .first-constraint .ensures)
 
 tree-of-returns-5 : (t : ℕ) → tree-of-lts.Need-returns-5 (tree-of-calls t) (tree-of-at t) tree-of.Post
 tree-of-returns-5 t c =
-    let start = c .before .before .before .before .before .before .before .before .before .before .before .before .before .before .before .before .before .before .before .before in
-    let far = c .before .before .before .before .before .before .before .before .before .before .before .before .before in
+    let start = c .before .before .before .before .before .before .before .before .before .before .before .before .before .before .before .before .before .before .before .before .before in
+    let far = c .before .before .before .before .before .before .before .before .before .before .before .before .before .before in
     let far2 = c .before .before in
-    let s = start .args in let p = start .pre in tree-leaf (s .fixed .now) (s .nums .now) (s .marks .now) (s .limit) (s .count) (s .at) (p .1) (s .out .now) (c .before .before .before .before .before .before .before .before .before .before .before .before .before .before .before .if1 .left) _ (far .first-row .ensures) (row-few (s .marks .now) _ (c .before .before .before .before .before .before .before .before .before .before .before .before .if2 .left) (far .first-row .ensures)) _ (c .before .before .before .before .before .before .before .before .before .lowest-open .ensures) (omega (arith, c .before .before .before .before .before .before .before .before .if3 .left)) _ (c .before .before .before .before .before .before .first-constraint .ensures) (omega (arith, c .before .before .before .before .before .if4 .left)) _ _ (far2 .put-leaf .ensures .0) (far2 .put-leaf .ensures .1)
+    let s = start .args in let p = start .pre in tree-leaf (s .fixed .now) (s .nums .now) (s .marks .now) (s .limit) (s .count) (s .at) (p .1) (s .out .now) (c .before .before .before .before .before .before .before .before .before .before .before .before .before .before .before .before .if1 .left) _ (far .first-row .ensures) (row-few (s .marks .now) _ (c .before .before .before .before .before .before .before .before .before .before .before .before .before .if2 .left) (far .first-row .ensures)) _ (c .before .before .before .before .before .before .before .before .before .before .lowest-open .ensures) (omega (arith, c .before .before .before .before .before .before .before .before .before .if3 .left)) _ (c .before .before .before .before .before .before .before .first-constraint .ensures) (omega (arith, c .before .before .before .before .before .before .if4 .left)) _ _ (far2 .put-leaf .ensures .0) (far2 .put-leaf .ensures .1)
 
 pub +case-tree+case-trees+switch-node+test-node+tree-of-spec : {M : Type 1} → statement M
 +case-tree+case-trees+switch-node+test-node+tree-of-spec = close μ-case-tree μ-case-trees μ-switch-node μ-test-node μ-tree-of
