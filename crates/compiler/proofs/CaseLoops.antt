@@ -10,8 +10,10 @@ use borrow.Author.Tests.{eq-eqb, ne-eqb}
 use Rattle.term.specs.declared.renumber.Passed.{Passed}
 use Rattle.term.specs.declared.renumber.Passed.the-variants.{Done, Stuck}
 use Rattle.compiler.specs.told.Tables.{newHead, isHeadWord, countHeads}
-use Rattle.compiler.specs.told.NodeTold.{leftInRows, CasesReady, HeadOfCase, CaseTold, CasesTold}
-use Rattle.compiler.proofs.ToldCases.{CasesLeft, cases-end, cases-skip, cases-stuck, cases-next, cases-told}
+use Rattle.compiler.specs.told.Stands.{Stands}
+use Rattle.compiler.specs.told.NodeTold.{leftInRows, CasesReady, HeadOfCase, caseTree, CaseTold, CasesTold}
+use Rattle.compiler.proofs.CasesLaid.{cases-end, cases-skip, cases-stuck, cases-next}
+use Rattle.compiler.proofs.ToldCases.{casesFor, SwitchLeft, none-case, one-more, cases-told}
 use Rattle.compiler.proofs.Entered.{count-most}
 use Rattle.compiler.proofs.SwitchRuns.{AllCases, OneCase}
 
@@ -23,7 +25,7 @@ pub record CasesSoFar (fixed nums marks : List ℕ) (limit count slot at n : ℕ
   pub high : a ≤ limit + 5000
   pub within : r ≤ 64
   pub heads-end : to ≤ slot + 2 * r
-  pub tells : (book last : List ℕ) (x : Passed) → CasesLeft book fixed nums marks limit count n r to a now-out last x → CasesLeft book fixed nums marks limit count n 0 slot at out last x
+  pub tells : (book last : List ℕ) (x : Passed) → SwitchLeft book fixed nums marks limit count n r to a now-out last x → SwitchLeft book fixed nums marks limit count n 0 slot at out last x
 
 module _ (fixed nums marks : List ℕ) (limit count slot at m n : ℕ) (out : List ℕ) (t : CasesReady fixed nums marks limit count at m n × (slot + 1 + 2 * countHeads fixed nums marks n ≡ at)) where
   pub place-low : n < 4096
@@ -76,7 +78,7 @@ module _ (fixed nums marks : List ℕ) (limit count slot at m n : ℕ) (out : Li
             high = f .high;
             within = omega arith;
             heads-end = omega (arith, f .heads-end);
-            tells = λ book last x told. f .tells book last x (cases-skip book fixed nums marks limit count n r to a now-out few (ap isHeadWord (sym is-entry ∙ e)) last x told);
+            tells = λ book last x told. f .tells book last x (cases-skip (Stands book fixed nums marks count) (caseTree book marks n) (casesFor book marks n) (none-case book marks n) (one-more book marks n) (newHead fixed nums marks n) 64 limit r to a now-out few (ap isHeadWord (sym is-entry ∙ e)) last x told);
           }
 
       module _ (new : w ≡ 33554432 → ⊥) where
@@ -93,7 +95,7 @@ module _ (fixed nums marks : List ℕ) (limit count slot at m n : ℕ) (out : Li
           pub so-far-over : x ≡ Stuck → (book : List ℕ) → CasesTold book fixed nums marks limit count slot at n out three Stuck
           so-far-over e book =
               cases-told book fixed nums marks limit count slot at n out three Stuck (t .0 .known) (t .1)
-              (f .tells book three Stuck (cases-stuck book fixed nums marks limit count n r to a now-out few w is-entry head two three three (rw e at (told-entry book))))
+              (f .tells book three Stuck (cases-stuck (Stands book fixed nums marks count) (caseTree book marks n) (casesFor book marks n) (none-case book marks n) (one-more book marks n) (newHead fixed nums marks n) 64 limit r to a now-out few w is-entry head two three three (rw e at (told-entry book))))
 
           pub so-far-next : (next : ℕ) → x ≡ Done next → (one : List ℕ) → one ≡ set now-out to w → two ≡ set one (to + 1) a → length three ≡ length now-out
               → CasesSoFar fixed nums marks limit count slot at n out nums₃ marks₃ three (to + 2) next (r + 1)
@@ -107,12 +109,12 @@ module _ (fixed nums marks : List ℕ) (limit count slot at m n : ℕ) (out : Li
                 high = k .3;
                 within = omega arith;
                 heads-end = omega (arith, f .heads-end);
-                tells = λ book last y after. f .tells book last y (cases-next book fixed nums marks limit count n r to a now-out few w is-entry head next one two three p q (rw e at (told-entry book)) last y after);
+                tells = λ book last y after. f .tells book last y (cases-next (Stands book fixed nums marks count) (caseTree book marks n) (casesFor book marks n) (none-case book marks n) (one-more book marks n) (newHead fixed nums marks n) 64 limit r to a now-out few w is-entry head next one two three p q (rw e at (told-entry book)) last y after);
               }
 
     -- no rows are left
     pub so-far-end : 64 ≤ r → (done : List ℕ) → done ≡ set now-out to a → AllCases fixed nums marks limit count slot at n out done nums₂ marks₂ (Done a)
     so-far-end h done e = (
-      λ book. cases-told book fixed nums marks limit count slot at n out done (Done a) (t .0 .known) (t .1) (f .tells book done (Done a) (cases-end book fixed nums marks limit count n r to a now-out h done e)),
+      λ book. cases-told book fixed nums marks limit count slot at n out done (Done a) (t .0 .known) (t .1) (f .tells book done (Done a) (cases-end (Stands book fixed nums marks count) (caseTree book marks n) (casesFor book marks n) (none-case book marks n) (one-more book marks n) (newHead fixed nums marks n) 64 limit r to a now-out h done e)),
       (f .nums-same, f .marks-same, f .low, f .high),
     )

@@ -10,6 +10,8 @@ mod Strikes
 mod Lowests
 mod LowestRow
 mod StruckRows
+mod NodeWords
+mod CasesLaid
 mod NewHeads
 mod RootSymbols
 mod LeafWords
@@ -40,7 +42,6 @@ mod StartStands
 mod CompileLaws
 mod Outcomes
 mod LeftFalls
-mod NodeWords
 mod Readies
 mod ToldNodes
 mod ToldCases

@@ -19,6 +19,7 @@ use Rattle.tree.specs.Compile.{without, addHead, heads}
 use Rattle.compiler.specs.told.Tables.{firstAt, manyAt, isFree, rootHas, hasHead, headWord, newHead, isHeadWord, countHeads, headKind}
 use Rattle.compiler.specs.told.Stands.{rowIf, rowsLeft, Stands}
 use Rattle.tree.proofs.Laws.{heads-no, without-none, without-more, heads-row}
+use Rattle.compiler.proofs.CasesLaid.{headsFrom, headWords, heads-step, heads-skip, many-heads}
 use Rattle.compiler.proofs.SpotHeads.{headOr}
 use Rattle.compiler.proofs.RowsLeft.{rowOfRule}
 use Rattle.compiler.proofs.Strikes.{row-head, head-kinds}
@@ -97,53 +98,10 @@ unfolding keptHeads
 kept-same p q e [] = refl
 kept-same p q e (h ∷ hs) = rw (e (word h), kept-same p q e hs)
 
--- ---- the heads that the tables give, from row r on
-unfoldable pub headsFrom : List ℕ → List ℕ → List ℕ → ℕ → ℕ → ℕ → List ℕ
-headsFrom fixed nums marks n r zero = []
-headsFrom fixed nums marks n r (suc more) =
-    pick (isHeadWord (newHead fixed nums marks n r)) (newHead fixed nums marks n r ∷ headsFrom fixed nums marks n (suc r) more) (headsFrom fixed nums marks n (suc r) more)
-
-unfoldable pub headWords : List Head → List ℕ
-headWords [] = []
-headWords (h ∷ hs) = word h ∷ headWords hs
-
-pub heads-end : (fixed nums marks : List ℕ) (n r : ℕ) → headsFrom fixed nums marks n r 0 ≡ []
-unfolding headsFrom
-heads-end fixed nums marks n r = refl
-
-pub heads-step : (fixed nums marks : List ℕ) (n r more : ℕ) → isHeadWord (newHead fixed nums marks n r) ≡ true
-    → headsFrom fixed nums marks n r (suc more) ≡ newHead fixed nums marks n r ∷ headsFrom fixed nums marks n (suc r) more
-unfolding headsFrom
-heads-step fixed nums marks n r more e = rw e
-
-pub heads-skip : (fixed nums marks : List ℕ) (n r more : ℕ) → isHeadWord (newHead fixed nums marks n r) ≡ false
-    → headsFrom fixed nums marks n r (suc more) ≡ headsFrom fixed nums marks n (suc r) more
-unfolding headsFrom
-heads-skip fixed nums marks n r more e = rw e
-
-pub heads-few : (fixed nums marks : List ℕ) (n r more : ℕ) → length (headsFrom fixed nums marks n r more) ≤ more
-unfolding headsFrom
-heads-few fixed nums marks n r zero = omega arith
-heads-few fixed nums marks n r (suc more) = go (isHeadWord (newHead fixed nums marks n r)) (heads-few fixed nums marks n (suc r) more)
-  where
-    go : (b : Bool) → length (headsFrom fixed nums marks n (suc r) more) ≤ more
-        → length (pick b (newHead fixed nums marks n r ∷ headsFrom fixed nums marks n (suc r) more) (headsFrom fixed nums marks n (suc r) more)) ≤ suc more
-    go true l = omega arith
-    go false l = omega arith
-
-many-heads : (fixed nums marks : List ℕ) (n more r : ℕ) → manyAt (λ k. isHeadWord (newHead fixed nums marks n k)) r more ≡ length (headsFrom fixed nums marks n r more)
-unfolding headsFrom manyAt
-many-heads fixed nums marks n zero r = refl
-many-heads fixed nums marks n (suc more) r = rw (many-heads fixed nums marks n more (suc r)) (go (isHeadWord (newHead fixed nums marks n r)))
-  where
-    go : (b : Bool) → pick b 1 0 + length (headsFrom fixed nums marks n (suc r) more)
-        ≡ length (pick b (newHead fixed nums marks n r ∷ headsFrom fixed nums marks n (suc r) more) (headsFrom fixed nums marks n (suc r) more))
-    go true = omega arith
-    go false = omega arith
-
-pub heads-counted : (fixed nums marks : List ℕ) (n : ℕ) → countHeads fixed nums marks n ≡ length (headsFrom fixed nums marks n 0 64)
+-- ---- how many heads there are
+pub heads-counted : (fixed nums marks : List ℕ) (n : ℕ) → countHeads fixed nums marks n ≡ length (headsFrom (newHead fixed nums marks n) 0 64)
 unfolding countHeads
-heads-counted fixed nums marks n = many-heads fixed nums marks n 64 0
+heads-counted fixed nums marks n = many-heads (newHead fixed nums marks n) 64 0
 
 -- ---- a row with a new head
 pub new-head-row : (fixed nums marks : List ℕ) (n r : ℕ) → isHeadWord (newHead fixed nums marks n r) ≡ true → (isFree marks r ≡ true) × (headWord fixed nums r n ≡ newHead fixed nums marks n r)
@@ -212,23 +170,23 @@ words-first : (h : Head) (hs : List Head) → headWords (h ∷ hs) ≡ word h �
 unfolding headWords
 words-first h hs = refl
 
-module _ (fixed nums marks : List ℕ) (n r more : ℕ) (hs : List Head) (rest : headWords (keptHeads (isNewHead fixed nums marks n (suc r)) hs) ≡ headsFrom fixed nums marks n (suc r) more) where
-  adds-struck : isFree marks r ≡ false → headWords (keptHeads (isNewHead fixed nums marks n r) hs) ≡ headsFrom fixed nums marks n r (suc more)
+module _ (fixed nums marks : List ℕ) (n r more : ℕ) (hs : List Head) (rest : headWords (keptHeads (isNewHead fixed nums marks n (suc r)) hs) ≡ headsFrom (newHead fixed nums marks n) (suc r) more) where
+  adds-struck : isFree marks r ≡ false → headWords (keptHeads (isNewHead fixed nums marks n r) hs) ≡ headsFrom (newHead fixed nums marks n) r (suc more)
   adds-struck f =
       ap headWords (kept-same (isNewHead fixed nums marks n r) (isNewHead fixed nums marks n (suc r)) (new-struck fixed nums marks n r f) hs)
-      ∙ rest ∙ sym (heads-skip fixed nums marks n r more (struck-head fixed nums marks n r f))
+      ∙ rest ∙ sym (heads-skip (newHead fixed nums marks n) r more (struck-head fixed nums marks n r f))
 
-  adds-none : isFree marks r ≡ true → headWord fixed nums r n ≡ 33554432 → headWords (keptHeads (isNewHead fixed nums marks n r) hs) ≡ headsFrom fixed nums marks n r (suc more)
+  adds-none : isFree marks r ≡ true → headWord fixed nums r n ≡ 33554432 → headWords (keptHeads (isNewHead fixed nums marks n r) hs) ≡ headsFrom (newHead fixed nums marks n) r (suc more)
   adds-none f e =
       ap headWords (kept-same (isNewHead fixed nums marks n r) (isNewHead fixed nums marks n (suc r)) (new-unheaded fixed nums marks n r f e) hs)
-      ∙ rest ∙ sym (heads-skip fixed nums marks n r more (rw (free-head fixed nums marks n r 33554432 f e) (go (isNew fixed nums marks n r 33554432))))
+      ∙ rest ∙ sym (heads-skip (newHead fixed nums marks n) r more (rw (free-head fixed nums marks n r 33554432 f e) (go (isNew fixed nums marks n r 33554432))))
     where
       go : (b : Bool) → isHeadWord (pick b 33554432 33554432) ≡ false
       go true = refl
       go false = refl
 
   adds-some : (h : Head) → isFree marks r ≡ true → headWord fixed nums r n ≡ word h → headKind (word h) ≡ true
-      → headWords (keptHeads (isNewHead fixed nums marks n r) (h ∷ without h hs)) ≡ headsFrom fixed nums marks n r (suc more)
+      → headWords (keptHeads (isNewHead fixed nums marks n r) (h ∷ without h hs)) ≡ headsFrom (newHead fixed nums marks n) r (suc more)
   adds-some h f e l =
       rw (
         kept-first (isNewHead fixed nums marks n r) h (without h hs),
@@ -238,13 +196,13 @@ module _ (fixed nums marks : List ℕ) (n r more : ℕ) (hs : List Head) (rest :
       (go (isNew fixed nums marks n r (word h)) (free-head fixed nums marks n r (word h) f e))
     where
       go : (b : Bool) → newHead fixed nums marks n r ≡ pick b (word h) 33554432
-          → headWords (pick (b && true) (h ∷ keptHeads (isNewHead fixed nums marks n (suc r)) hs) (keptHeads (isNewHead fixed nums marks n (suc r)) hs)) ≡ headsFrom fixed nums marks n r (suc more)
+          → headWords (pick (b && true) (h ∷ keptHeads (isNewHead fixed nums marks n (suc r)) hs) (keptHeads (isNewHead fixed nums marks n (suc r)) hs)) ≡ headsFrom (newHead fixed nums marks n) r (suc more)
       go true q =
           words-first h (keptHeads (isNewHead fixed nums marks n (suc r)) hs) ∙ ap₂ _∷_ (sym q) rest
-          ∙ sym (heads-step fixed nums marks n r more (ap isHeadWord q ∙ kind-is-head (word h) l))
-      go false q = rest ∙ sym (heads-skip fixed nums marks n r more (ap isHeadWord q))
+          ∙ sym (heads-step (newHead fixed nums marks n) r more (ap isHeadWord q ∙ kind-is-head (word h) l))
+      go false q = rest ∙ sym (heads-skip (newHead fixed nums marks n) r more (ap isHeadWord q))
 
-none-from : (fixed nums marks : List ℕ) (n r : ℕ) (p : Place) → headWords (keptHeads (isNewHead fixed nums marks n r) (heads p [])) ≡ headsFrom fixed nums marks n r 0
+none-from : (fixed nums marks : List ℕ) (n r : ℕ) (p : Place) → headWords (keptHeads (isNewHead fixed nums marks n r) (heads p [])) ≡ headsFrom (newHead fixed nums marks n) r 0
 unfolding keptHeads headWords headsFrom
 none-from fixed nums marks n r p = ap (λ (hs : List Head). headWords (keptHeads (isNewHead fixed nums marks n r) hs)) (heads-no p)
 
@@ -270,14 +228,14 @@ module _ (book fixed nums marks : List ℕ) (count : ℕ) (path : OnPath) (s : S
             added (some h) q =
                 (kind-is-head (word h) (head-kinds book fixed nums marks count path s n known r rule (omega arith) f e h q), all-without h (heads at (rowsLeft book marks (suc r) more)) i)
 
-    heads-from : (more r : ℕ) → r + more ≤ 64 → headWords (keptHeads (isNewHead fixed nums marks n r) (heads at (rowsLeft book marks r more))) ≡ headsFrom fixed nums marks n r more
+    heads-from : (more r : ℕ) → r + more ≤ 64 → headWords (keptHeads (isNewHead fixed nums marks n r) (heads at (rowsLeft book marks r more))) ≡ headsFrom (newHead fixed nums marks n) r more
     unfolding rowsLeft
     heads-from zero r l = none-from fixed nums marks n r at
     heads-from (suc more) r l = go (isFree marks r) refl (ruleAt book r) refl (heads-from more (suc r) (omega arith))
       where
         go : (a : Bool) → isFree marks r ≡ a → (o : Option Rule) → ruleAt book r ≡ o
-            → headWords (keptHeads (isNewHead fixed nums marks n (suc r)) (heads at (rowsLeft book marks (suc r) more))) ≡ headsFrom fixed nums marks n (suc r) more
-            → headWords (keptHeads (isNewHead fixed nums marks n r) (heads at (rowIf a (rootHas marks) r o (rowsLeft book marks (suc r) more)))) ≡ headsFrom fixed nums marks n r (suc more)
+            → headWords (keptHeads (isNewHead fixed nums marks n (suc r)) (heads at (rowsLeft book marks (suc r) more))) ≡ headsFrom (newHead fixed nums marks n) (suc r) more
+            → headWords (keptHeads (isNewHead fixed nums marks n r) (heads at (rowIf a (rootHas marks) r o (rowsLeft book marks (suc r) more)))) ≡ headsFrom (newHead fixed nums marks n) r (suc more)
         go false f o e i = adds-struck fixed nums marks n r more (heads at (rowsLeft book marks (suc r) more)) i f
         go true f none e i = never (let z = s .absent r (omega arith) e in cc)
         go true f (some rule) e i =
@@ -285,13 +243,13 @@ module _ (book fixed nums marks : List ℕ) (count : ℕ) (path : OnPath) (s : S
             (added (headAt (leftIn rule) at) refl (row-head book fixed nums marks count path s n known r rule (omega arith) f e))
           where
             added : (o : Option Head) → headAt (leftIn rule) at ≡ o → headWord fixed nums r n ≡ headOr (headAt (leftIn rule) at)
-                → headWords (keptHeads (isNewHead fixed nums marks n r) (addHead o (heads at (rowsLeft book marks (suc r) more)))) ≡ headsFrom fixed nums marks n r (suc more)
+                → headWords (keptHeads (isNewHead fixed nums marks n r) (addHead o (heads at (rowsLeft book marks (suc r) more)))) ≡ headsFrom (newHead fixed nums marks n) r (suc more)
             added none q w = adds-none fixed nums marks n r more (heads at (rowsLeft book marks (suc r) more)) i f (w ∙ ap headOr q)
             added (some h) q w =
                 adds-some fixed nums marks n r more (heads at (rowsLeft book marks (suc r) more)) i h f (w ∙ ap headOr q)
                 (head-kinds book fixed nums marks count path s n known r rule (omega arith) f e h q)
 
-  pub new-heads : (n : ℕ) → n < count → headWords (heads (placeNumbered n (path .uncovered)) (rowsLeft book marks 0 64)) ≡ headsFrom fixed nums marks n 0 64
+  pub new-heads : (n : ℕ) → n < count → headWords (heads (placeNumbered n (path .uncovered)) (rowsLeft book marks 0 64)) ≡ headsFrom (newHead fixed nums marks n) 0 64
   new-heads n known = ap headWords (sym (all-kept (isNewHead fixed nums marks n 0) (λ w e. rw (new-start fixed nums marks n w, e)) _ (all-heads n known 64 0 (omega arith)))) ∙ heads-from n known 64 0 (omega arith)
 
   -- the row in which a head first appears

@@ -13,7 +13,7 @@ use borrow.Author.Tests.{eqb-true, eq-eqb, ne-eqb, ltb-true, lt-ltb, le-ltb}
 use Rattle.term.specs.Word.{word, pick, countOf}
 use Rattle.fit.specs.Match.{leftIn}
 use Rattle.tree.specs.Compile.{entering, holding}
-use Rattle.compiler.specs.told.Tables.{Changed, onlyAt, unmarked, forgotten, isFree, isRow, rowOf, ofFreeRow, kindFrom, struckRows, firstRow, headWord, hasOther, isOther, isHeadWord, countHeads, firstConstraint, struckSame, strikes, rowHas, rowsNumbered, sizeAt, idsAt, occurrenceWords, variableSpot, firstSpot, leafFrom, leafWords, sameWordsOf, frontWords}
+use Rattle.compiler.specs.told.Tables.{Changed, onlyAt, unmarked, forgotten, isFree, isRow, rowOf, ofFreeRow, kindFrom, struckRows, firstRow, headWord, hasOther, isOther, newHead, isHeadWord, countHeads, firstConstraint, struckSame, strikes, rowHas, rowsNumbered, sizeAt, idsAt, occurrenceWords, variableSpot, firstSpot, leafFrom, leafWords, sameWordsOf, frontWords}
 use Rattle.compiler.specs.told.Stands.{TreeReady}
 use Rattle.compiler.specs.told.NodeTold.{leftInRows, SwitchReady, TestReady, CasesReady, HeadOfCase}
 use Rattle.tree.proofs.Laws.{open-at}
@@ -22,7 +22,8 @@ use Rattle.compiler.proofs.SpotHeads.{headOr}
 use Rattle.compiler.proofs.Strikes.{row-head, head-kinds}
 use Rattle.compiler.proofs.StruckRows.{struck-later, struck-stands}
 use Rattle.compiler.proofs.Restores.{Marked, marked-join, rows-marked, same-marked, set-marked, marked-below, still-shut, rows-apart, same-apart, set-back, unmark-restores, forget-restores}
-use Rattle.compiler.proofs.NewHeads.{heads-few, heads-counted, new-head-row}
+use Rattle.compiler.proofs.CasesLaid.{heads-few}
+use Rattle.compiler.proofs.NewHeads.{heads-counted, new-head-row}
 use Rattle.compiler.proofs.LeftFalls.{case-falls, default-falls, yes-falls, no-falls}
 use Rattle.compiler.proofs.ToldNodes.{first-row, lowest-open, first-test}
 use Rattle.compiler.proofs.ToldCases.{CaseIs, case-is}
@@ -62,7 +63,7 @@ front-long fixed nums id = go (ltb id 8256)
         )
 
 pub heads-most : (fixed nums marks : List ℕ) (n : ℕ) → countHeads fixed nums marks n ≤ 64
-heads-most fixed nums marks n = omega (arith, heads-counted fixed nums marks n, heads-few fixed nums marks n 0 64)
+heads-most fixed nums marks n = omega (arith, heads-counted fixed nums marks n, heads-few (newHead fixed nums marks n) 0 64)
 
 -- ---- a tree
 module _ (fixed nums marks : List ℕ) (limit count at : ℕ) (t : TreeReady fixed nums marks limit count at) where

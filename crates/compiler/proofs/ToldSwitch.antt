@@ -15,15 +15,15 @@ use Rattle.tree.specs.Compile.{heads, defaultRows, compile}
 use Rattle.tree.specs.Layout.{caseCount, long, longCases, caseHeads, layout, layoutCases}
 use Rattle.compiler.specs.told.Tables.{Changed, firstRow, isFree, struckRows, lowestFrom, hasOther, countHeads}
 use Rattle.compiler.specs.told.Stands.{rowsLeft, Stands, TreeTold}
-use Rattle.compiler.specs.told.NodeTold.{switchCases, CasesTold}
-use Rattle.tree.proofs.Laws.{length-heads, compile-switch, switch-long, switch-laid, length-cases}
+use Rattle.compiler.specs.told.NodeTold.{switchCases, AllTold, CasesTold}
+use Rattle.tree.proofs.Laws.{length-heads, count-cases-of, compile-switch, switch-long, switch-laid, length-cases}
 use Rattle.compiler.proofs.RowsLeft.{rowOfRule}
 use Rattle.compiler.proofs.Lowests.{Candidate, range}
 use Rattle.compiler.proofs.Strikes.{default-left}
 use Rattle.compiler.proofs.StruckRows.{struck-stands}
 use Rattle.compiler.proofs.NodeWords.{switch-words}
 use Rattle.compiler.proofs.ToldNodes.{first-row, lowest-open}
-use Rattle.compiler.proofs.ToldCases.{count-cases, switch-many}
+use Rattle.compiler.proofs.ToldCases.{switch-many}
 
 -- the lowest open place has a number, and is not entered
 pub lowest-known : (fixed nums marks : List ℕ) (count : ℕ) → ((k : ℕ) → getD nums k 0 ≤ count) → (from n : ℕ) → suc n ≡ lowestFrom fixed nums marks from 64 0 → (n < count) × (isFree marks (64 + n) ≡ true)
@@ -42,8 +42,8 @@ module _ (book fixed nums marks : List ℕ) (limit count at : ℕ) (out : List �
   -- the Switch, seen from a path
   record SwitchIs (path : OnPath) : Type 0 where
     known : n < count
-    whole : compile path (rowsLeft book marks 0 64) ≡ Switch n (switchCases book marks path n) (defaultTree path)
-    many : caseCount (switchCases book marks path n) ≡ countHeads fixed nums marks n
+    whole : compile path (rowsLeft book marks 0 64) ≡ Switch n (switchCases book marks n path) (defaultTree path)
+    many : caseCount (switchCases book marks n path) ≡ countHeads fixed nums marks n
 
   switch-is : (path : OnPath) → Stands book fixed nums marks count path → SwitchIs path
   switch-is path s =
@@ -52,15 +52,15 @@ module _ (book fixed nums marks : List ℕ) (limit count at : ℕ) (out : List �
       record {
         known = k;
         whole = compile-switch path (rowsLeft book marks 0 64) (rowOfRule marks (firstRow marks) (f .rule)) (f .rest) n (f .rows) (lowest-open book fixed nums marks count path s few n lowest);
-        many = count-cases book marks path n (heads (placeNumbered n (path .uncovered)) (rowsLeft book marks 0 64)) ∙ switch-many book fixed nums marks count path s n k;
+        many = count-cases-of path (rowsLeft book marks 0 64) n (heads (placeNumbered n (path .uncovered)) (rowsLeft book marks 0 64)) ∙ switch-many book fixed nums marks count path s n k;
       }
 
-  long-is : (path : OnPath) → SwitchIs path → long (compile path (rowsLeft book marks 0 64)) ≡ 4 + 2 * countHeads fixed nums marks n + longCases (switchCases book marks path n) + long (defaultTree path)
-  long-is path i = ap long (i .whole) ∙ switch-long n (switchCases book marks path n) (defaultTree path) ∙ rw (i .many)
+  long-is : (path : OnPath) → SwitchIs path → long (compile path (rowsLeft book marks 0 64)) ≡ 4 + 2 * countHeads fixed nums marks n + longCases (switchCases book marks n path) + long (defaultTree path)
+  long-is path i = ap long (i .whole) ∙ switch-long n (switchCases book marks n path) (defaultTree path) ∙ rw (i .many)
 
   module _ (first : ℕ) (from : first ≡ at + 4 + 2 * countHeads fixed nums marks n) where
     pub cases-over : (three four done : List ℕ) → CasesTold book fixed nums marks limit count (at + 3) first n three four Stuck → TreeTold book fixed nums marks limit count at out done Stuck
-    unfolding TreeTold CasesTold
+    unfolding TreeTold AllTold
     cases-over three four done told path s = omega (arith, from, long-is path (switch-is path s), told path s)
 
     module _ (b : ℕ) (one two three four : List ℕ) (p : one ≡ set out at 2) (q : two ≡ set one (at + 1) n) (r : three ≡ set two (at + 2) (countHeads fixed nums marks n))
@@ -73,27 +73,27 @@ module _ (book fixed nums marks : List ℕ) (limit count at : ℕ) (out : List �
       default-is path s = ap (compile path) (default-left book fixed nums marks count path s n (switch-is path s .known) m dropped real drops)
 
       pub default-over : (five done : List ℕ) → TreeTold book fixed nums dropped limit count b four five Stuck → TreeTold book fixed nums marks limit count at out done Stuck
-      unfolding TreeTold CasesTold
+      unfolding TreeTold AllTold
       default-over five done told path s =
           let d : limit < b + long (defaultTree path) = rw (default-is path s) at (told path (stands path s)) in
           omega (arith, from, long-is path (switch-is path s), cases path s .0, d)
 
       pub switch-told : (end : ℕ) (five : List ℕ) → TreeTold book fixed nums dropped limit count b four five (Done end) → TreeTold book fixed nums marks limit count at out five (Done end)
-      unfolding TreeTold CasesTold
+      unfolding TreeTold AllTold
       switch-told end five told path s = whole path (switch-is path s) (cases path s) (rw (default-is path s) at (told path (stands path s)))
         where
           whole : (path : OnPath) → SwitchIs path
-              → (b ≡ first + longCases (switchCases book marks path n)) × (four ≡ sets (sets three (at + 3) (caseHeads first (switchCases book marks path n) ++ (b ∷ []))) first (layoutCases first (switchCases book marks path n)))
+              → (b ≡ first + longCases (switchCases book marks n path)) × (four ≡ sets (sets three (at + 3) (caseHeads first (switchCases book marks n path) ++ (b ∷ []))) first (layoutCases first (switchCases book marks n path)))
               → (end ≡ b + long (defaultTree path)) × (five ≡ sets four b (layout b (defaultTree path)))
               → (end ≡ at + long (compile path (rowsLeft book marks 0 64))) × (five ≡ sets out at (layout at (compile path (rowsLeft book marks 0 64))))
           whole path i c d =
-              let cs = switchCases book marks path n in (
+              let cs = switchCases book marks n path in (
                 omega (arith, from, long-is path i, c .0, d .0),
                 switch-words out (caseHeads first cs) (layoutCases first cs) (layout b (defaultTree path)) at n (countHeads fixed nums marks n) first b (omega (arith, from, length-heads first cs, i .many)) (c .0 ∙ ap (first +_) (sym (length-cases first cs)))
                     one two three four five p q r (c .1) (d .1)
                     ∙ ap (sets out at) (sym (laid path i (c .0))),
               )
             where
-              laid : (path : OnPath) → SwitchIs path → b ≡ first + longCases (switchCases book marks path n) → layout at (compile path (rowsLeft book marks 0 64))
-                  ≡ 2 ∷ n ∷ countHeads fixed nums marks n ∷ (caseHeads first (switchCases book marks path n) ++ (b ∷ (layoutCases first (switchCases book marks path n) ++ layout b (defaultTree path))))
-              laid path i e = ap (layout at) (i .whole) ∙ switch-laid at n (switchCases book marks path n) (defaultTree path) ∙ rw (i .many, e, from)
+              laid : (path : OnPath) → SwitchIs path → b ≡ first + longCases (switchCases book marks n path) → layout at (compile path (rowsLeft book marks 0 64))
+                  ≡ 2 ∷ n ∷ countHeads fixed nums marks n ∷ (caseHeads first (switchCases book marks n path) ++ (b ∷ (layoutCases first (switchCases book marks n path) ++ layout b (defaultTree path))))
+              laid path i e = ap (layout at) (i .whole) ∙ switch-laid at n (switchCases book marks n path) (defaultTree path) ∙ rw (i .many, e, from)

@@ -70,26 +70,28 @@ pub record HeadOfCase (fixed nums marks : List ℕ) (n w : ℕ) : Type 0 where
   pub head : isHeadWord w ≡ true
 
 -- ---- what is told
--- of the tree of one case
-abbrev pub caseTree : List ℕ → List ℕ → OnPath → ℕ → Head → Tree
-caseTree book marks path n h = compile (entering n h path) (caseRows (placeNumbered n (path .uncovered)) h (rowsLeft book marks 0 64))
+-- of the tree of one case whose head has the word w, for every path that the tables stand for
+unfoldable pub OneTold : (OnPath → Type 0) → (OnPath → Head → Tree) → ℕ → ℕ → ℕ → List ℕ → List ℕ → Passed → Type 0
+OneTold stands tree limit at w out done (Done a) =
+    (path : OnPath) → stands path → (h : Head) → word h ≡ w → InTable h → (a ≡ at + long (tree path h)) × (done ≡ sets out at (layout at (tree path h)))
+OneTold stands tree limit at w out done Stuck = (path : OnPath) → stands path → (h : Head) → word h ≡ w → InTable h → limit < at + long (tree path h)
 
-unfoldable pub CaseTold : List ℕ → List ℕ → List ℕ → List ℕ → ℕ → ℕ → ℕ → ℕ → ℕ → List ℕ → List ℕ → Passed → Type 0
-CaseTold book fixed nums marks limit count at n w out done (Done a) =
-    (path : OnPath) → Stands book fixed nums marks count path → (h : Head) → word h ≡ w → InTable h
-    → (a ≡ at + long (caseTree book marks path n h)) × (done ≡ sets out at (layout at (caseTree book marks path n h)))
-CaseTold book fixed nums marks limit count at n w out done Stuck =
-    (path : OnPath) → Stands book fixed nums marks count path → (h : Head) → word h ≡ w → InTable h
-    → limit < at + long (caseTree book marks path n h)
+-- of all cases: their heads and addresses and the default's address are written from `slot` on, their trees from `at` on
+unfoldable pub AllTold : (OnPath → Type 0) → (OnPath → Cases) → ℕ → ℕ → ℕ → List ℕ → List ℕ → Passed → Type 0
+AllTold stands cases limit slot at out done (Done a) =
+    (path : OnPath) → stands path
+    → (a ≡ at + longCases (cases path)) × (done ≡ sets (sets out slot (caseHeads at (cases path) ++ (a ∷ []))) at (layoutCases at (cases path)))
+AllTold stands cases limit slot at out done Stuck = (path : OnPath) → stands path → limit < at + longCases (cases path)
 
--- of the cases of a Switch at n, whose heads and addresses are written from `slot` on and whose trees from `at` on
-abbrev pub switchCases : List ℕ → List ℕ → OnPath → ℕ → Cases
-switchCases book marks path n = casesOf compile path (rowsLeft book marks 0 64) n (heads (placeNumbered n (path .uncovered)) (rowsLeft book marks 0 64))
+-- the cases of a Switch at n
+abbrev pub caseTree : List ℕ → List ℕ → ℕ → OnPath → Head → Tree
+caseTree book marks n path h = compile (entering n h path) (caseRows (placeNumbered n (path .uncovered)) h (rowsLeft book marks 0 64))
 
-unfoldable pub CasesTold : List ℕ → List ℕ → List ℕ → List ℕ → ℕ → ℕ → ℕ → ℕ → ℕ → List ℕ → List ℕ → Passed → Type 0
-CasesTold book fixed nums marks limit count slot at n out done (Done a) =
-    (path : OnPath) → Stands book fixed nums marks count path
-    → (a ≡ at + longCases (switchCases book marks path n))
-    × (done ≡ sets (sets out slot (caseHeads at (switchCases book marks path n) ++ (a ∷ []))) at (layoutCases at (switchCases book marks path n)))
-CasesTold book fixed nums marks limit count slot at n out done Stuck =
-    (path : OnPath) → Stands book fixed nums marks count path → limit < at + longCases (switchCases book marks path n)
+abbrev pub switchCases : List ℕ → List ℕ → ℕ → OnPath → Cases
+switchCases book marks n path = casesOf compile path (rowsLeft book marks 0 64) n (heads (placeNumbered n (path .uncovered)) (rowsLeft book marks 0 64))
+
+abbrev pub CaseTold : List ℕ → List ℕ → List ℕ → List ℕ → ℕ → ℕ → ℕ → ℕ → ℕ → List ℕ → List ℕ → Passed → Type 0
+CaseTold book fixed nums marks limit count at n w out done x = OneTold (Stands book fixed nums marks count) (caseTree book marks n) limit at w out done x
+
+abbrev pub CasesTold : List ℕ → List ℕ → List ℕ → List ℕ → ℕ → ℕ → ℕ → ℕ → ℕ → List ℕ → List ℕ → Passed → Type 0
+CasesTold book fixed nums marks limit count slot at n out done x = AllTold (Stands book fixed nums marks count) (switchCases book marks n) limit slot at out done x
