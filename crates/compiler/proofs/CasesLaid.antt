@@ -70,11 +70,11 @@ CasesLeft stands cases new all limit r to a out done (Done b) =
 CasesLeft stands cases new all limit r to a out done Stuck =
     (path : OnPath) → stands path → (hs : List Head) → headWords hs ≡ headsFrom new r (all - r) → InTables hs → to + 1 + 2 * length hs ≤ a → limit < a + longCases (cases path hs)
 
-words-none : headWords [] ≡ []
+pub words-none : headWords [] ≡ []
 unfolding headWords
 words-none = refl
 
-words-more : (h : Head) (hs : List Head) → headWords (h ∷ hs) ≡ word h ∷ headWords hs
+pub words-more : (h : Head) (hs : List Head) → headWords (h ∷ hs) ≡ word h ∷ headWords hs
 unfolding headWords
 words-more h hs = refl
 

@@ -17,7 +17,8 @@ use Rattle.book.specs.declared.accept.Accepted.the-variants.{Sound, Refused}
 use Rattle.book.specs.Accept.{accept}
 use Rattle.book.proofs.Laws.{good-accepted}
 use Rattle.tree.specs.Path.{start}
-use Rattle.tree.specs.Compile.{compile, bookRows, bookTree}
+use Rattle.tree.specs.Compile.{compile, bookRows}
+use Rattle.tree.specs.Root.{bookTree}
 use Rattle.tree.specs.Layout.{treeWords, long, layout}
 use Rattle.compiler.specs.told.Stands.{rowsLeft, Stands, TreeTold, TreeReady}
 use Rattle.compiler.specs.Compiled.{hasRoom, compileAnswer, compileWords, compileLength, compileCame, compileGives}

@@ -17,7 +17,7 @@ use Rattle.book.specs.declared.accept.Accepted.the-variants.{Sound, Refused}
 use Rattle.book.specs.Book.{checkBook}
 use Rattle.book.specs.Accept.{accept}
 use Rattle.book.proofs.Laws.{accepted-good, refusal-number}
-use Rattle.tree.specs.Compile.{bookTree}
+use Rattle.tree.specs.Root.{bookTree}
 use Rattle.tree.specs.Layout.{treeWords}
 use Rattle.tree.proofs.Laws.{Lies, tree-words}
 use Rattle.compiler.specs.Compiled.{hasRoom, compiledAnswer, compileAnswer, compileWords, compileLength}

@@ -13,7 +13,9 @@ mod StruckRows
 mod NodeWords
 mod CasesLaid
 mod NewHeads
+mod RootTables
 mod RootSymbols
+mod RootWords
 mod LeafWords
 mod Pigeonhole
 mod EnteredSpots
@@ -43,6 +45,7 @@ mod CompileLaws
 mod Outcomes
 mod LeftFalls
 mod Readies
+mod RootEntered
 mod ToldNodes
 mod ToldCases
 mod ToldSwitch

@@ -26,7 +26,7 @@ use Rattle.compiler.proofs.Strikes.{row-head, head-kinds}
 use Rattle.compiler.proofs.TableLaws.{head-there}
 
 -- ---- one row more
-first-more : (p : ℕ → Bool) (m i : ℕ) → eqb (firstAt p i (suc m)) (i + suc m) ≡ eqb (firstAt p i m) (i + m) && not (p (i + m))
+pub first-more : (p : ℕ → Bool) (m i : ℕ) → eqb (firstAt p i (suc m)) (i + suc m) ≡ eqb (firstAt p i m) (i + m) && not (p (i + m))
 unfolding firstAt
 first-more p zero i =
     let z : i + 0 ≡ i = omega arith in

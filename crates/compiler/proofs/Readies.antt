@@ -97,7 +97,7 @@ struck-own fixed nums marks id m after c l h f e = c id ∙ go (ltb id 8256) ref
     go b q = let k = kind (ltb id 8256) refl in rw (k .0, k .1, f, e)
 
 -- a mark that is no row's changes no row
-rows-of-set : (l : List ℕ) (n m k : ℕ) → ofFreeRow (set l (64 + n) m) 0 k ≡ ofFreeRow l 0 k
+pub rows-of-set : (l : List ℕ) (n m k : ℕ) → ofFreeRow (set l (64 + n) m) 0 k ≡ ofFreeRow l 0 k
 rows-of-set l n m k = go (ltb k (0 + 4096)) refl
   where
     go : (b : Bool) → ltb k (0 + 4096) ≡ b → pick (ltb k 0) false (pick b (isFree (set l (64 + n) m) (rowOf 0 k)) false) ≡ pick (ltb k 0) false (pick b (isFree l (rowOf 0 k)) false)

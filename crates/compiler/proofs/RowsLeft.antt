@@ -67,11 +67,11 @@ pub record FirstRow (book marks : List ℕ) (first from more : ℕ) : Type 0 whe
   pub free : isFree marks first ≡ true
   pub rows : rowsLeft book marks from more ≡ rowOfRule marks first rule ∷ rest
 
-rows-step : (book marks : List ℕ) (r more : ℕ) → rowsLeft book marks r (suc more) ≡ rowIf (isFree marks r) (rootHas marks) r (ruleAt book r) (rowsLeft book marks (suc r) more)
+pub rows-step : (book marks : List ℕ) (r more : ℕ) → rowsLeft book marks r (suc more) ≡ rowIf (isFree marks r) (rootHas marks) r (ruleAt book r) (rowsLeft book marks (suc r) more)
 unfolding rowsLeft
 rows-step book marks r more = refl
 
-rows-ended : (book marks : List ℕ) (r : ℕ) → rowsLeft book marks r 0 ≡ []
+pub rows-ended : (book marks : List ℕ) (r : ℕ) → rowsLeft book marks r 0 ≡ []
 unfolding rowsLeft
 rows-ended book marks r = refl
 

@@ -5,5 +5,6 @@ mod heads;
 mod load;
 mod nodes;
 mod numbers;
+mod root;
 mod table;
 mod words;

@@ -4,7 +4,7 @@ use Prim.Native.Nat.{ℕ, zero, suc, _+_, _-_, _*_, _/_, _%_}
 use mathlib.Core.Path.{_≡_}
 use mathlib.Core.Bool.{Bool, true, false, _&&_, _||_}
 use mathlib.Core.List.{List, [], _∷_, _++_}
-use lib.Dec.{eqb, ltb}
+use lib.Dec.{eqb, ltb, leb}
 use lib.ListN.{length, getD, set, take, drop}
 use Rattle.term.specs.Word.{pick, kindOf, countOf, identOf}
 use Rattle.term.specs.Part.{partEnd}
@@ -266,3 +266,37 @@ sameWordsOf fixed nums f k = 4 ∷ numberAt nums f ∷ numberAt nums k ∷ sizeA
 unfoldable pub frontWords : List ℕ → List ℕ → ℕ → List ℕ
 frontWords fixed nums id =
     pick (ltb id 8256) (3 ∷ occurrenceWords fixed nums (id - 4160)) (sameWordsOf fixed nums (firstSpot fixed (id - 8256)) (id - 8256))
+
+-- ---- the root Switch
+-- the symbol at the root of row r
+abbrev pub rootIdent : List ℕ → ℕ → ℕ
+rootIdent fixed r = identOf (getD fixed (r * 64) 0)
+
+-- a row that is not struck has this symbol
+abbrev pub hasSymbol : List ℕ → List ℕ → ℕ → ℕ → Bool
+hasSymbol fixed marks i r = isFree marks r && eqb (rootIdent fixed r) i
+
+abbrev pub lesserOf : Bool → ℕ → ℕ → ℕ
+lesserOf there c n = pick (there && leb c n) c n
+
+-- the smallest count of the symbol in so many rows from r on; 16 where none has it
+unfoldable pub smallestFrom : List ℕ → List ℕ → ℕ → ℕ → ℕ → ℕ
+smallestFrom fixed marks i r zero = 16
+smallestFrom fixed marks i r (suc more) = lesserOf (hasSymbol fixed marks i r) (sizeAt fixed (r * 64)) (smallestFrom fixed marks i (suc r) more)
+
+-- the head of the case number k: the symbol that first appears in row k / 16, with k % 16 arguments
+abbrev pub countWord : ℕ → ℕ → ℕ → ℕ
+countWord least c i = pick (leb least c) (c * 65536 + i) 33554432
+
+unfoldable pub rootWord : List ℕ → List ℕ → ℕ → ℕ
+rootWord fixed marks k =
+    pick (isFree marks (k / 16))
+    (pick (eqb (firstAt (hasSymbol fixed marks (rootIdent fixed (k / 16))) 0 (k / 16)) (k / 16))
+    (countWord (smallestFrom fixed marks (rootIdent fixed (k / 16)) 0 64) (k % 16) (rootIdent fixed (k / 16))) 33554432) 33554432
+
+unfoldable pub countRoots : List ℕ → List ℕ → ℕ
+countRoots fixed marks = manyAt (λ k. isHeadWord (rootWord fixed marks k)) 0 1024
+
+-- row r does not cover the head w
+abbrev pub leavesOut : List ℕ → ℕ → ℕ → Bool
+leavesOut fixed w r = pick (eqb (rootIdent fixed r) (identOf w)) (ltb (countOf w) (sizeAt fixed (r * 64))) true
