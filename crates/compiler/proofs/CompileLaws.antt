@@ -17,10 +17,11 @@ use Rattle.book.specs.declared.accept.Accepted.the-variants.{Sound, Refused}
 use Rattle.book.specs.Accept.{accept}
 use Rattle.book.proofs.Laws.{good-accepted}
 use Rattle.tree.specs.Path.{start}
-use Rattle.tree.specs.Compile.{compile, bookRows}
-use Rattle.tree.specs.Root.{bookTree}
+use Rattle.tree.specs.Compile.{bookRows}
+use Rattle.tree.specs.Root.{rootTree, bookTree}
 use Rattle.tree.specs.Layout.{treeWords, long, layout}
-use Rattle.compiler.specs.told.Stands.{rowsLeft, Stands, TreeTold, TreeReady}
+use Rattle.compiler.specs.told.Stands.{rowsLeft, Stands}
+use Rattle.compiler.specs.told.RootTold.{RootReady, RootTold}
 use Rattle.compiler.specs.Compiled.{hasRoom, compileAnswer, compileWords, compileLength, compileCame, compileGives}
 use Rattle.tree.proofs.Laws.{length-layout, tree-words, book-tree-is}
 
@@ -54,36 +55,36 @@ module _ (room : ℕ) (book out : List ℕ) where
     unfolding compileGives compileAnswer compileWords compileLength
     short-tree h e = rw (sound, no-room-there room (treeWords book) h) (ap (compileCame (answered answer.Short) 0) e)
 
--- ---- what the cycle tells at the start of a path
+-- ---- what is told of the tree at the start of a path
 module _ (book fixed nums marks : List ℕ) (stands : Stands book fixed nums marks 1 start) (rows : rowsLeft book marks 0 64 ≡ bookRows book 0 (getD book 0 0)) where
-  tree-is : compile start (rowsLeft book marks 0 64) ≡ bookTree book
-  tree-is = ap (compile start) rows ∙ sym (book-tree-is book)
+  tree-is : rootTree (rowsLeft book marks 0 64) ≡ bookTree book
+  tree-is = ap rootTree rows ∙ sym (book-tree-is book)
 
-  words-are : layout 0 (compile start (rowsLeft book marks 0 64)) ≡ treeWords book
+  words-are : layout 0 (rootTree (rowsLeft book marks 0 64)) ≡ treeWords book
   words-are = ap (layout 0) tree-is ∙ sym (tree-words book)
 
-  long-is : long (compile start (rowsLeft book marks 0 64)) ≡ length (treeWords book)
-  long-is = sym (length-layout 0 (compile start (rowsLeft book marks 0 64))) ∙ ap length words-are
+  long-is : long (rootTree (rowsLeft book marks 0 64)) ≡ length (treeWords book)
+  long-is = sym (length-layout 0 (rootTree (rowsLeft book marks 0 64))) ∙ ap length words-are
 
   sound : accept book ≡ Sound
   sound = good-accepted book (stands .accepted)
 
   module _ (room limit : ℕ) (most : limit ≡ room - (room - 16384)) (out done : List ℕ) (clear : out ≡ replicate room 0) where
-    told-long : (a : ℕ) → TreeTold book fixed nums marks limit 1 0 out done (step.Done a) → (a ≡ length (treeWords book)) × (done ≡ sets (replicate room 0) 0 (treeWords book))
-    unfolding TreeTold
+    told-long : (a : ℕ) → RootTold book fixed nums marks limit out done (step.Done a) → (a ≡ length (treeWords book)) × (done ≡ sets (replicate room 0) 0 (treeWords book))
+    unfolding RootTold
     told-long a t =
-        let s = t start stands in
+        let s = t stands in
         (omega (arith, s .0, long-is), s .1 ∙ rw (words-are, clear))
 
-    pub compile-done : (a : ℕ) → TreeTold book fixed nums marks limit 1 0 out done (step.Done a) → a ≤ limit → compileCame (answered answer.Done) a done ≡ compileGives book room
+    pub compile-done : (a : ℕ) → RootTold book fixed nums marks limit out done (step.Done a) → a ≤ limit → compileCame (answered answer.Done) a done ≡ compileGives book room
     compile-done a t h = let s = told-long a t in rw (s .0) (wrote-tree room book done sound (omega (arith, h, s .0, most)) (s .1))
 
-    pub compile-over : (a : ℕ) → TreeTold book fixed nums marks limit 1 0 out done (step.Done a) → limit < a → (last : List ℕ) → last ≡ replicate room 0 → compileCame (answered answer.Short) 0 last ≡ compileGives book room
+    pub compile-over : (a : ℕ) → RootTold book fixed nums marks limit out done (step.Done a) → limit < a → (last : List ℕ) → last ≡ replicate room 0 → compileCame (answered answer.Short) 0 last ≡ compileGives book room
     compile-over a t h last z = short-tree room book last sound (omega (arith, h, told-long a t .0, most)) z
 
-    pub compile-stuck : TreeTold book fixed nums marks limit 1 0 out done step.Stuck → (last : List ℕ) → last ≡ replicate room 0 → compileCame (answered answer.Short) 0 last ≡ compileGives book room
-    unfolding TreeTold
-    compile-stuck t last z = short-tree room book last sound (omega (arith, t start stands, long-is, most)) z
+    pub compile-stuck : RootTold book fixed nums marks limit out done step.Stuck → (last : List ℕ) → last ≡ replicate room 0 → compileCame (answered answer.Short) 0 last ≡ compileGives book room
+    unfolding RootTold
+    compile-stuck t last z = short-tree room book last sound (omega (arith, t stands, long-is, most)) z
 
 -- ---- cleared tables
 pub zeros-long : (n : ℕ) (l : List ℕ) → l ≡ replicate n 0 → length l ≡ n
@@ -93,13 +94,6 @@ pub zeros-clear : (n : ℕ) (l : List ℕ) → l ≡ replicate n 0 → (k : ℕ)
 zeros-clear n l e k = ap (λ (v : List ℕ). getD v k 0) e ∙ zero-at n k
 
 pub start-ready : (book fixed nums marks : List ℕ) (room limit : ℕ) → length fixed ≡ 8256 → length nums ≡ 4096 → length marks ≡ 12352 → limit ≡ room - (room - 16384)
-    → Stands book fixed nums marks 1 start → ((k : ℕ) → getD marks k 0 < 2) → TreeReady fixed nums marks limit 1 0
+    → Stands book fixed nums marks 1 start → ((k : ℕ) → getD marks k 0 < 2) → RootReady fixed nums marks limit
 start-ready book fixed nums marks room limit f n m l s low =
-    record {
-      sizes = (f, n, m);
-      within = (omega (arith, l), omega arith);
-      older = λ k. omega (arith, low k);
-      book = book;
-      path = start;
-      stands = s;
-    }
+    record { sizes = (f, n, m); most = omega (arith, l); low = low; book = book; stands = s }

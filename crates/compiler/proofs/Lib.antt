@@ -53,6 +53,9 @@ mod CaseLoops
 mod SwitchRuns
 mod TestRuns
 mod TreeRuns
+mod RootRuns
+mod RootLoops
+mod RootTrees
 mod CompiledDone
 mod Judgements
 pub mod Laws

@@ -7,7 +7,7 @@ ghost use Rattle.book.specs.declared.accept.Accepted.the-variants.{Sound};
 ghost use Rattle.book.specs.Accept.{accept};
 ghost use Rattle.compiler.specs.Compiled.{compileCame, compileGives};
 use crate::load::load;
-use crate::nodes::tree_of;
+use crate::root::root_tree;
 use crate::table::FIXED;
 use crate::table::MARKS;
 use crate::table::SPOTS;
@@ -51,7 +51,7 @@ fn compile_good(
 {
     load(book, fixed, nums, marks);
     let limit = limit_of(out.len());
-    match tree_of(fixed, nums, marks, out, limit, 1, 0) {
+    match root_tree(fixed, nums, marks, out, limit) {
         Passed::Done(end) => {
             if limit < end {
                 clear(out);
