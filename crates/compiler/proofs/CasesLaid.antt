@@ -8,7 +8,7 @@ use lib.ListN.{length, set, length-append}
 use lib.Seq.{sets}
 use Rattle.term.specs.declared.renumber.Passed.{Passed}
 use Rattle.term.specs.declared.renumber.Passed.the-variants.{Done, Stuck}
-use Rattle.term.specs.Word.{Head, word, pick, InTable}
+use Rattle.term.specs.Word.{Head, word, pick}
 use Rattle.term.proofs.Laws.{never}
 use Rattle.tree.specs.Tree.{Tree, Cases, NoCase, Case}
 use Rattle.tree.specs.Path.{OnPath}

@@ -24,7 +24,7 @@ use Rattle.compiler.proofs.RowsLeft.{struck-free}
 use Rattle.compiler.proofs.SpotHeads.{headOr}
 use Rattle.compiler.proofs.Strikes.{row-head, head-kinds}
 use Rattle.compiler.proofs.StruckRows.{struck-later}
-use Rattle.compiler.proofs.EnteredRows.{Filled, Enters, full-rule}
+use Rattle.compiler.proofs.EnteredRows.{Enters, full-rule}
 use Rattle.compiler.proofs.TableLaws.{head-there}
 
 both-true : (a b : Bool) → a && not b ≡ true → (a ≡ true) × (b ≡ false)

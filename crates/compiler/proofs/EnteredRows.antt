@@ -1,6 +1,6 @@
 -- Row after row is numbered, each in its own spots: a row that is not struck has no more children at the place than are numbered, and so it stands on the path
 -- with the place entered.
-use mathlib.Core.Path.{_≡_, refl, sym, ap, _∙_}
+use mathlib.Core.Path.{_≡_, refl, sym, _∙_}
 use mathlib.Core.Bool.{true}
 use mathlib.Core.List.{List, [], _∷_}
 use mathlib.Core.Option.{Option, none, some}

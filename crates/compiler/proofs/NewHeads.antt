@@ -16,7 +16,7 @@ use Rattle.fit.specs.Match.{leftIn}
 use Rattle.tree.specs.Path.{OnPath, placeNumbered}
 use Rattle.tree.specs.Rows.{headAt}
 use Rattle.tree.specs.Compile.{without, addHead, heads}
-use Rattle.compiler.specs.told.Tables.{firstAt, manyAt, isFree, rootHas, hasHead, headWord, newHead, isHeadWord, countHeads, headKind}
+use Rattle.compiler.specs.told.Tables.{firstAt, isFree, rootHas, hasHead, headWord, newHead, isHeadWord, countHeads, headKind}
 use Rattle.compiler.specs.told.Stands.{rowIf, rowsLeft, Stands}
 use Rattle.tree.proofs.Laws.{heads-no, without-none, without-more, heads-row}
 use Rattle.compiler.proofs.CasesLaid.{headsFrom, headWords, heads-step, heads-skip, many-heads}

@@ -4,7 +4,7 @@ use mathlib.Core.Path.{_≡_, refl, sym, ap, _∙_}
 use mathlib.Core.Bool.{Bool, true, false, _&&_, not}
 use mathlib.Core.List.{List, [], _∷_}
 use mathlib.Core.Option.{Option, none, some}
-use Prim.Native.Nat.{ℕ, zero, suc, _+_, _-_, _*_, _≤_, _<_}
+use Prim.Native.Nat.{ℕ, zero, suc, _+_, _-_, _≤_, _<_}
 use native.Mathlib.Omega.{arith}
 use lib.Dec.{eqb, ltb, leb}
 use lib.ListN.{length, getD, set, length-set}
@@ -14,7 +14,7 @@ use Rattle.term.specs.Word.{Head, symbol, word, identOf, countOf, InTable, pick
 use Rattle.term.specs.Word as words
 use Rattle.term.proofs.Laws.{never, count-word, ident-word, count-symbol, ident-symbol, symbol-table}
 use Rattle.book.specs.Book.{Rule, ruleAt}
-use Rattle.fit.specs.Left.{Left, part}
+use Rattle.fit.specs.Left.{Left}
 use Rattle.fit.specs.Front.{rootArguments, covers}
 use Rattle.fit.specs.Match.{leftIn}
 use Rattle.fit.proofs.Laws.{covers-symbol}
@@ -24,12 +24,11 @@ use Rattle.tree.specs.Compile.{entering}
 use Rattle.tree.specs.Root.{rootCaseRows}
 use Rattle.compiler.specs.told.Tables.{Changed, onlyAt, unmarked, forgotten, isFree, isRow, rootHas, ofFreeRow, struckRows, rowsNumbered, leavesOut}
 use Rattle.compiler.specs.told.Stands.{rowIf, rowsLeft, Stands, TreeReady}
-use Rattle.compiler.specs.told.RootTold.{RootReady, RootCasesReady, RootHead}
 use Rattle.tree.proofs.Laws.{root-rows-none, root-rows-row, head-at-root, open-root, root-place}
 use Rattle.compiler.proofs.Restores.{Below, Marked, rows-marked, marked-below, rows-apart, set-back, Grown, Apart, unmark-restores, forget-restores}
 use Rattle.compiler.proofs.RowsLeft.{rowOfRule, struck-free, rows-step, rows-ended}
 use Rattle.compiler.proofs.StruckRows.{struck-later}
-use Rattle.compiler.proofs.RootSymbols.{RootSymbol, root-symbol}
+use Rattle.compiler.proofs.RootSymbols.{root-symbol}
 use Rattle.compiler.proofs.EnteredRows.{Enters}
 use Rattle.compiler.proofs.EnteredTables.{all-numbered, all-apart}
 use Rattle.compiler.proofs.Entered.{all-stand}

@@ -1,8 +1,8 @@
 -- The loop over the cases of the root: what is told of the heads from a number on tells of all the cases, and the tables are as at entry between two cases.
 use mathlib.Core.Path.{_≡_, refl, sym, ap, _∙_}
-use mathlib.Core.Bool.{Bool, true, false}
+use mathlib.Core.Bool.{true}
 use mathlib.Core.List.{List, [], _∷_}
-use Prim.Native.Nat.{ℕ, suc, _+_, _*_, _≤_, _<_}
+use Prim.Native.Nat.{ℕ, _+_, _*_, _≤_, _<_}
 use native.Mathlib.Omega.{arith}
 use lib.ListN.{length, set}
 use borrow.Author.Tests.{ne-eqb}
@@ -14,7 +14,7 @@ use Rattle.tree.specs.Path.{OnPath, start}
 use Rattle.tree.specs.Root.{rootHeads}
 use Rattle.compiler.specs.told.Tables.{isHeadWord, rootWord, countRoots}
 use Rattle.compiler.specs.told.Stands.{rowsLeft, TreeKept}
-use Rattle.compiler.specs.told.RootTold.{RootReady, RootCasesReady, RootHead, AtStart, rootCaseTree, rootCasesFor, RootCaseTold, RootCasesTold}
+use Rattle.compiler.specs.told.RootTold.{RootCasesReady, RootHead, AtStart, rootCaseTree, rootCasesFor, RootCaseTold, RootCasesTold}
 use Rattle.tree.proofs.Laws.{root-cases-none, root-cases-more}
 use Rattle.compiler.proofs.CasesLaid.{CasesLeft, cases-end, cases-skip, cases-stuck, cases-next, all-told}
 use Rattle.compiler.proofs.RootWords.{root-words, root-tables, root-many, root-head}

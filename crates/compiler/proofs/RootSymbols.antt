@@ -1,9 +1,9 @@
 -- The root of a row is a symbol, and the word at the row's first spot says which, and how many arguments it has.
-use mathlib.Core.Path.{_≡_, refl, sym, ap, _∙_}
+use mathlib.Core.Path.{_≡_, ap, _∙_}
 use mathlib.Core.Bool.{true}
 use mathlib.Core.List.{List, []}
 use mathlib.Core.Option.{some}
-use Prim.Native.Nat.{ℕ, _+_, _*_, _<_}
+use Prim.Native.Nat.{ℕ, _*_, _<_}
 use lib.ListN.{getD}
 use Rattle.term.specs.Word.{Head, symbol, word, countOf, identOf, InTable}
 use Rattle.term.proofs.Laws.{count-word, ident-word, count-symbol, ident-symbol}

@@ -1,14 +1,14 @@
 -- What the tests of the root Switch say of the tables, one law for each way through a function.
 use mathlib.Core.Path.{_≡_, refl, sym, ap, _∙_}
-use mathlib.Core.Bool.{Bool, true, false, _&&_}
+use mathlib.Core.Bool.{Bool, true, false}
 use mathlib.Core.List.{List}
-use Prim.Native.Nat.{ℕ, zero, suc, _+_, _-_, _*_, _/_, _%_, _≤_, _<_}
+use Prim.Native.Nat.{ℕ, suc, _+_, _-_, _*_, _/_, _%_, _≤_, _<_}
 use native.Mathlib.Omega.{arith}
-use lib.Dec.{eqb, ltb, leb}
+use lib.Dec.{eqb, ltb}
 use lib.ListN.{getD}
 use borrow.Author.Tests.{eq-eqb, ne-eqb, le-leb, lt-leb}
-use Rattle.term.specs.Word.{pick, identOf, countOf}
-use Rattle.compiler.specs.told.Tables.{firstAt, manyAt, isFree, isHeadWord, sizeAt, rootIdent, hasSymbol, lesserOf, smallestFrom, countWord, rootWord, countRoots, leavesOut}
+use Rattle.term.specs.Word.{identOf, countOf}
+use Rattle.compiler.specs.told.Tables.{firstAt, manyAt, isHeadWord, sizeAt, rootIdent, hasSymbol, lesserOf, smallestFrom, rootWord, countRoots, leavesOut}
 
 -- ---- symbols
 pub symbol-struck : (fixed marks : List ℕ) (i r : ℕ) → (getD marks r 0 ≡ 0 → ⊥) → false ≡ hasSymbol fixed marks i r

@@ -6,12 +6,12 @@ use mathlib.Core.Option.{Option, none, some}
 use Prim.Native.Nat.{ℕ, zero, suc, _+_, _-_, _*_, _/_, _%_, _≤_, _<_}
 use native.Mathlib.Omega.{arith}
 use lib.Dec.{eqb, leb}
-use lib.ListN.{length, getD}
-use borrow.Author.Tests.{eqb-true, ne-eqb, le-leb, lt-leb, leb-true, leb-false}
-use Rattle.term.specs.Word.{Head, symbol, word, pick}
+use lib.ListN.{length}
+use borrow.Author.Tests.{ne-eqb, le-leb, lt-leb, leb-true}
+use Rattle.term.specs.Word.{Head, symbol, pick}
 use Rattle.term.proofs.Laws.{never, word-symbol, symbol-few}
 use Rattle.book.specs.Book.{Rule, ruleAt}
-use Rattle.fit.specs.Left.{Left, part, end}
+use Rattle.fit.specs.Left.{Left}
 use Rattle.fit.specs.Match.{leftIn}
 use Rattle.tree.specs.Path.{OnPath}
 use Rattle.tree.specs.Rows.{RuleRow, headHere}

@@ -1,17 +1,16 @@
 -- The rows that are not struck: striking rows leaves those of a case, of the default, or without a constraint.
-use mathlib.Core.Path.{_≡_, refl, sym, ap, ap₂, _∙_}
+use mathlib.Core.Path.{_≡_, refl, sym}
 use mathlib.Core.Bool.{Bool, true, false, _&&_, not}
 use mathlib.Core.List.{List, [], _∷_}
 use mathlib.Core.Option.{Option, none, some}
-use Prim.Native.Nat.{ℕ, zero, suc, _+_, _*_, _≤_, _<_}
+use Prim.Native.Nat.{ℕ, zero, suc, _+_, _≤_, _<_}
 use native.Mathlib.Omega.{arith}
-use lib.Dec.{eqb, ltb}
-use lib.ListN.{length, getD}
-use borrow.Author.Tests.{eqb-true, eqb-false, eq-eqb, ne-eqb, lt-ltb, le-ltb}
+use lib.Dec.{eqb}
+use lib.ListN.{getD}
+use borrow.Author.Tests.{ne-eqb, lt-ltb}
 use Rattle.term.specs.Word.{pick}
 use Rattle.term.proofs.Laws.{never}
 use Rattle.book.specs.Book.{Rule, ruleAt}
-use Rattle.fit.specs.Match.{leftIn}
 use Rattle.tree.specs.Rows.{RuleRow}
 use Rattle.compiler.specs.told.Tables.{Changed, isFree, rootHas, firstRow, struckRows, firstAt}
 use Rattle.compiler.specs.told.Stands.{rowWith, rowIf, rowsLeft}

@@ -1,11 +1,10 @@
 -- What is told of the tree of the rows that are not struck, where it is Fail, a Leaf or a test: the tables say which node it is, and its subtrees are told.
-use mathlib.Core.Path.{_≡_, refl, sym, ap, ap₂, _∙_}
-use mathlib.Core.Bool.{Bool, true, false}
-use mathlib.Core.List.{List, [], _∷_, _++_, append-assoc}
+use mathlib.Core.Path.{_≡_, refl, sym, ap, _∙_}
+use mathlib.Core.List.{List, _∷_, _++_}
 use mathlib.Core.Option.{Option, none, some}
-use Prim.Native.Nat.{ℕ, zero, suc, _+_, _*_, _≤_, _<_}
+use Prim.Native.Nat.{ℕ, suc, _+_, _*_, _≤_, _<_}
 use native.Mathlib.Omega.{arith}
-use lib.ListN.{length, getD, set, length-append}
+use lib.ListN.{length, set}
 use lib.Seq.{sets}
 use Rattle.term.specs.declared.renumber.Passed.the-variants.{Done, Stuck}
 use Rattle.fit.specs.Constraint.{Constraint}

@@ -1,13 +1,13 @@
 -- Writing the words of nodes, as its loops meet it.
 use mathlib.Core.Path.{_≡_, refl, sym, ap, _∙_}
-use mathlib.Core.Bool.{Bool, true, false, _&&_}
+use mathlib.Core.Bool.{Bool, true, false}
 use mathlib.Core.List.{List, [], _∷_, _++_}
-use Prim.Native.Nat.{ℕ, zero, suc, _+_, _-_, _*_, _/_, _%_, _≤_, _<_}
+use Prim.Native.Nat.{ℕ, zero, suc, _+_, _-_, _*_, _≤_, _<_}
 use native.Mathlib.Omega.{arith}
-use lib.Dec.{eqb, ltb}
+use lib.Dec.{ltb}
 use lib.ListN.{length, getD, set, length-append}
 use lib.Seq.{sets}
-use borrow.Author.Tests.{lt-ltb, le-ltb, eq-eqb, ne-eqb, ltb-true}
+use borrow.Author.Tests.{lt-ltb, le-ltb, ltb-true}
 use Rattle.term.specs.Word.{pick, identOf}
 use Rattle.compiler.specs.told.Tables.{firstAt, isVariable, listed, sizeAt, idsFrom, idsAt, numberAt, occurrenceWords, variableSpot, leafFrom, asideAt, leafWords, sameWordsOf, frontWords, firstSpot}
 

@@ -1,10 +1,10 @@
 // The root Switch: for each symbol in order of first appearance, every count from its smallest up to the most arguments.
 ghost use mathlib.Core.List.{List};
 ghost use mathlib.Core.Path.{_≡_};
-ghost use Prim.Native.Nat.{ℕ, _+_, _*_, _≤_, _<_};
+ghost use Prim.Native.Nat.{ℕ, _+_, _*_, _<_};
 ghost use lib.Dec.{eqb};
 ghost use lib.ListN.{length, getD};
-ghost use Rattle.compiler.specs.told.Tables.{Changed, firstAt, struckRows, hasSymbol, lesserOf, smallestFrom, rootIdent, rootWord, countRoots, leavesOut, sizeAt};
+ghost use Rattle.compiler.specs.told.Tables.{Changed, firstAt, struckRows, hasSymbol, lesserOf, smallestFrom, rootWord, countRoots, leavesOut, sizeAt};
 ghost use Rattle.compiler.specs.told.Stands.{TreeKept};
 ghost use Rattle.compiler.specs.told.RootTold.{RootReady, RootCasesReady, RootHead, RootCaseTold, RootCasesTold, RootTold};
 use crate::nodes::OWN;
@@ -30,7 +30,7 @@ use tree::node::SWITCH;
 const COUNTS: usize = 16;
 
 // The cases that could be: for each row every count.
-const CASES: usize = 1024;
+const CASES: usize = MOST_RULES_LONG * COUNTS;
 
 // The place of the root.
 const ROOT_PLACE: u32 = 0;

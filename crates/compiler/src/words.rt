@@ -1,10 +1,9 @@
 // The words of nodes that have no subtrees before their addresses.
 ghost use mathlib.Core.Path.{_≡_};
-ghost use mathlib.Core.List.{_∷_};
-ghost use Prim.Native.Nat.{ℕ, _+_, _*_, _-_, _≤_, _<_};
+ghost use Prim.Native.Nat.{_+_, _*_, _-_, _≤_, _<_};
 ghost use lib.ListN.{length, getD};
 ghost use lib.Seq.{sets};
-ghost use Rattle.compiler.specs.told.Tables.{sizeAt, idsAt, numberAt, occurrenceWords, variableSpot, leafFrom, asideAt, leafWords, frontWords, isVariable};
+ghost use Rattle.compiler.specs.told.Tables.{sizeAt, idsAt, numberAt, occurrenceWords, variableSpot, leafFrom, asideAt, leafWords, frontWords};
 use crate::constraints::first_spot;
 use crate::constraints::is_variable;
 use crate::table::CLOSED_MARKS;

@@ -49,7 +49,7 @@ pub record TestReady (fixed nums marks : List ℕ) (limit count at id : ℕ) : T
   pub is : id ≡ firstConstraint fixed marks (firstRow marks)
   pub some-left : id ≡ 0 → ⊥
 
--- the place n is open; the Switch's own mark is newer than every mark, and older than those of its subtrees
+-- the root was entered, and the place n is open; the Switch's own mark is newer than every mark, and older than those of its subtrees
 pub record CasesReady (fixed nums marks : List ℕ) (limit count at mark n : ℕ) : Type 0 where
   pub sizes : (length fixed ≡ 8256) × (length nums ≡ 4096) × (length marks ≡ 12352)
   pub within : (limit ≤ 16384) × (at ≤ limit + 5000)

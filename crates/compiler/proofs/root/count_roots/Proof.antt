@@ -1,9 +1,6 @@
 -- `root::count_roots` meets its contract: the cases so far and those left give the answer.
-use borrow.Author.Needs.{needs}
 use native.Mathlib.Omega.{arith}
-use mathlib.Core.Path.{_≡_, refl, sym, ap, _∙_}
-use Prim.Native.Nat.{ℕ, _+_, _*_, _-_, _≤_}
-use lib.ListN.{length, getD}
+use Prim.Native.Nat.{_-_}
 use Rattle.compiler.proofs.Sweeps.{Counting, count-start, count-yes, count-no, counted-all}
 use Rattle.compiler.proofs.RootTables.{rootHere, root-none, root-some, roots-are}
 use Rattle.compiler.proofs.root.count_roots.Statement.{statement}

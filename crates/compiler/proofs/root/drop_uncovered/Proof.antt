@@ -1,9 +1,7 @@
 -- `root::drop_uncovered` meets its contract: the rows passed are changed, and what is after them is as it came.
-use borrow.Author.Needs.{needs}
 use native.Mathlib.Omega.{arith}
-use mathlib.Core.Path.{_≡_, refl, sym, ap, _∙_}
-use Prim.Native.Nat.{ℕ, _+_, _*_, _-_, _≤_}
-use lib.ListN.{length, getD, length-set}
+use mathlib.Core.Path.{ap, _∙_}
+use Prim.Native.Nat.{_-_, _≤_}
 use Rattle.compiler.specs.told.Tables.{leavesOut, struckRows}
 use Rattle.compiler.proofs.Sweeps.{Sweeping, sweep-start, sweep-set, sweep-here, sweep-end}
 use Rattle.compiler.proofs.TableLaws.{past-rows}

@@ -1,6 +1,5 @@
 -- `root::has_symbol` meets its contract: its tests are the definition's.
 use borrow.Author.Needs.{needs}
-use native.Mathlib.Omega.{arith}
 use Rattle.compiler.proofs.RootTables.{symbol-struck, symbol-free}
 use Rattle.compiler.proofs.root.has_symbol.Statement.{statement}
 use Rattle.compiler.proofs.root.has_symbol.Tie as tie

@@ -1,9 +1,7 @@
 -- `root::is_first` meets its contract: what is left of the rows before gives the answer.
-use borrow.Author.Needs.{needs}
 use native.Mathlib.Omega.{arith}
-use mathlib.Core.Path.{_≡_, refl, sym, ap, _∙_}
-use Prim.Native.Nat.{ℕ, _+_, _*_, _-_, _≤_}
-use lib.ListN.{length, getD}
+use mathlib.Core.Path.{sym, _∙_}
+use Prim.Native.Nat.{_-_}
 use Rattle.compiler.specs.told.Tables.{hasSymbol}
 use Rattle.compiler.proofs.Sweeps.{Searching, search-start, search-next}
 use Rattle.compiler.proofs.TableLaws.{found-before, found-nowhere}

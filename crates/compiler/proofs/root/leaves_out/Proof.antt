@@ -1,6 +1,5 @@
 -- `root::leaves_out` meets its contract: its tests are the definition's.
 use borrow.Author.Needs.{needs}
-use native.Mathlib.Omega.{arith}
 use Rattle.compiler.proofs.RootTables.{out-other, out-count}
 use Rattle.compiler.proofs.root.leaves_out.Statement.{statement}
 use Rattle.compiler.proofs.root.leaves_out.Tie as tie

@@ -1,7 +1,6 @@
 -- `root::lesser` meets its contract: its tests are the definition's.
 use borrow.Author.Needs.{needs}
-use native.Mathlib.Omega.{arith}
-use mathlib.Core.Path.{_≡_, refl, sym, ap, _∙_}
+use mathlib.Core.Path.{sym, _∙_}
 use Rattle.compiler.proofs.RootTables.{lesser-taken, lesser-more, lesser-not}
 use Rattle.compiler.proofs.root.lesser.Statement.{statement}
 use Rattle.compiler.proofs.root.lesser.Tie as tie

@@ -1,8 +1,8 @@
 -- `root::root_case` meets its contract: its way is that of one case of the root.
 use borrow.Author.Needs.{needs}
 use native.Mathlib.Omega.{arith}
-use mathlib.Core.Path.{_≡_, refl, sym, ap, _∙_}
-use lib.ListN.{length, length-set}
+use mathlib.Core.Path.{_∙_}
+use lib.ListN.{length-set}
 use Rattle.compiler.proofs.RootRuns.{root-needs, root-over, root-done}
 use Rattle.compiler.proofs.root.root_case.Statement.{statement}
 use Rattle.compiler.proofs.root.root_case.Tie as tie

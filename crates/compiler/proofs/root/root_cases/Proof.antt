@@ -1,10 +1,9 @@
 -- `root::root_cases` meets its contract: what is told of the cases left tells of all.
 use borrow.Author.Needs.{needs}
 use native.Mathlib.Omega.{arith}
-use mathlib.Core.Path.{_≡_, refl, sym, ap, _∙_}
-use Prim.Native.Nat.{ℕ, _+_, _*_, _-_, _≤_}
-use mathlib.Core.List.{List}
-use lib.ListN.{length, getD}
+use mathlib.Core.Path.{ap, _∙_}
+use Prim.Native.Nat.{_-_}
+use lib.ListN.{length}
 use Rattle.compiler.proofs.RootLoops.{RootSoFar, so-far-start, sizes-are, to-small, a-small, so-far-skip, root-case-needs, so-far-over, so-far-next, so-far-end}
 use Rattle.compiler.proofs.root.root_cases.Statement.{statement}
 use Rattle.compiler.proofs.root.root_cases.Tie as tie

@@ -1,8 +1,7 @@
 -- `root::root_tree` meets its contract: no row is left, or its way is that of the root Switch.
 use borrow.Author.Needs.{needs}
 use native.Mathlib.Omega.{arith}
-use mathlib.Core.Path.{_≡_, refl, sym, ap, _∙_}
-use lib.ListN.{length}
+use mathlib.Core.Path.{refl, _∙_}
 use Rattle.compiler.proofs.RootTrees.{roots-most, root-fails, cases-needs, root-cases-over, next-most, root-done}
 use Rattle.compiler.proofs.root.root_tree.Statement.{statement}
 use Rattle.compiler.proofs.root.root_tree.Tie as tie

@@ -1,7 +1,7 @@
 -- `root::root_word` meets its contract: its tests are the definition's.
 use borrow.Author.Needs.{needs}
 use native.Mathlib.Omega.{arith}
-use mathlib.Core.Path.{_≡_, refl, sym, ap, _∙_}
+use mathlib.Core.Path.{sym, _∙_}
 use Rattle.compiler.proofs.RootTables.{root-struck, root-seen, root-counted, root-fewer}
 use Rattle.compiler.proofs.root.root_word.Statement.{statement}
 use Rattle.compiler.proofs.root.root_word.Tie as tie

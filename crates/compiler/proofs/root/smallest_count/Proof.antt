@@ -1,9 +1,8 @@
 -- `root::smallest_count` meets its contract: the least count of the rows passed is that of the rows from there on.
 use borrow.Author.Needs.{needs}
 use native.Mathlib.Omega.{arith}
-use mathlib.Core.Path.{_≡_, refl, sym, ap, _∙_}
-use Prim.Native.Nat.{ℕ, _+_, _*_, _-_, _≤_}
-use lib.ListN.{length, getD}
+use mathlib.Core.Path.{_≡_}
+use Prim.Native.Nat.{_-_, _≤_}
 use Rattle.compiler.specs.told.Tables.{smallestFrom}
 use Rattle.compiler.proofs.RootTables.{smallest-end, smallest-step, smallest-all}
 use Rattle.compiler.proofs.root.smallest_count.Statement.{statement}

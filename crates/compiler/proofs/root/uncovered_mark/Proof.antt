@@ -1,7 +1,6 @@
 -- `root::uncovered_mark` meets its contract: its tests are the definition's.
 use borrow.Author.Needs.{needs}
-use native.Mathlib.Omega.{arith}
-use mathlib.Core.Path.{_≡_, refl, sym, ap, _∙_}
+use mathlib.Core.Path.{sym, _∙_}
 use Rattle.compiler.specs.told.Tables.{leavesOut}
 use Rattle.compiler.proofs.TableLaws.{struck-stays, struck-now, struck-not}
 use Rattle.compiler.proofs.root.uncovered_mark.Statement.{statement}

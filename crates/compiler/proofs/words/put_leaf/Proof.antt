@@ -1,7 +1,7 @@
 -- `words::put_leaf` meets its contract: the words are set one after the other.
 use borrow.Author.Needs.{needs}
 use native.Mathlib.Omega.{arith}
-use mathlib.Core.Path.{_≡_, refl, sym, ap, _∙_}
+use mathlib.Core.Path.{_∙_}
 use Rattle.compiler.proofs.WordLaws.{leaf-put}
 use Rattle.compiler.proofs.words.put_leaf.Statement.{statement}
 use Rattle.compiler.proofs.words.put_leaf.Tie as tie
