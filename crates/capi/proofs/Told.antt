@@ -14,8 +14,8 @@ use Rattle.text.specs.BookText.{ReadBookOutcome, readBookCame, WriteBookOutcome
 use Rattle.text.specs.TermText.{ReadTermOutcome, readTermCame, WriteTermOutcome, writeTermCame}
 
 module _ (said told : Answered) (e : said ≡ told) where
-  pub match-rule-told : (bodies lengths : List ℕ) (o : MatchRuleOutcome) → matchRuleCame told bodies lengths ≡ o → matchRuleCame said bodies lengths ≡ o
-  match-rule-told bodies lengths o p = ap (λ (a : Answered). matchRuleCame a bodies lengths) e ∙ p
+  pub match-rule-told : (aside : ℕ) (bodies lengths : List ℕ) (o : MatchRuleOutcome) → matchRuleCame told aside bodies lengths ≡ o → matchRuleCame said aside bodies lengths ≡ o
+  match-rule-told aside bodies lengths o p = ap (λ (a : Answered). matchRuleCame a aside bodies lengths) e ∙ p
 
   pub build-left-told : (out : List ℕ) (o : BuildLeftOutcome) → buildLeftCame told out ≡ o → buildLeftCame said out ≡ o
   build-left-told out o p = ap (λ (a : Answered). buildLeftCame a out) e ∙ p
@@ -23,8 +23,8 @@ module _ (said told : Answered) (e : said ≡ told) where
   pub compile-told : (words : ℕ) (out : List ℕ) (o : CompileOutcome) → compileCame told words out ≡ o → compileCame said words out ≡ o
   compile-told words out o p = ap (λ (a : Answered). compileCame a words out) e ∙ p
 
-  pub match-tree-told : (rule : ℕ) (bodies lengths : List ℕ) (o : MatchTreeOutcome) → matchTreeCame told rule bodies lengths ≡ o → matchTreeCame said rule bodies lengths ≡ o
-  match-tree-told rule bodies lengths o p = ap (λ (a : Answered). matchTreeCame a rule bodies lengths) e ∙ p
+  pub match-tree-told : (rule aside : ℕ) (bodies lengths : List ℕ) (o : MatchTreeOutcome) → matchTreeCame told rule aside bodies lengths ≡ o → matchTreeCame said rule aside bodies lengths ≡ o
+  match-tree-told rule aside bodies lengths o p = ap (λ (a : Answered). matchTreeCame a rule aside bodies lengths) e ∙ p
 
   pub rewrite-root-told : (out : List ℕ) (o : RewriteRootOutcome) → rewriteRootCame told out ≡ o → rewriteRootCame said out ≡ o
   rewrite-root-told out o p = ap (λ (a : Answered). rewriteRootCame a out) e ∙ p

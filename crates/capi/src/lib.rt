@@ -44,7 +44,7 @@ pub extern "C" fn rosenduch_check_book(book: &[u32], at: &mut usize) -> u32
     say(operations::check_book(book), at)
 }
 
-// Matches one rule of a book against a term.
+// Matches one rule of a book against a term, with the number of arguments set aside.
 #[no_mangle]
 pub extern "C" fn rosenduch_match_rule(
     book: &[u32],
@@ -52,15 +52,16 @@ pub extern "C" fn rosenduch_match_rule(
     term: &[u32],
     bodies: &mut [u32],
     lengths: &mut [u32; 16],
+    aside: &mut u32,
     at: &mut usize,
 ) -> u32
-    ensures { λ r. ⌜ matchRuleCame (saying r (now (at .exit))) (now (bodies .exit)) (now (lengths .exit))
+    ensures { λ r. ⌜ matchRuleCame (saying r (now (at .exit))) (now (aside .exit)) (now (bodies .exit)) (now (lengths .exit))
         ≡ matchRuleGives (now (book .entry)) rule (now (term .entry)) (length (now (bodies .entry))) ⌝ }
 {
-    say(
-        operations::match_rule(book, rule, term, bodies, lengths),
-        at,
-    )
+    let found = operations::match_rule(book, rule, term, bodies, lengths);
+    *aside = found.aside;
+    let answer = found.answer;
+    say(answer, at)
 }
 
 // Builds a rule's left side from bodies.
@@ -95,7 +96,7 @@ pub extern "C" fn rosenduch_compile(
     say(answer, at)
 }
 
-// Matches a term by a tree, with the rule that it names.
+// Matches a term by a tree, with the rule that it names and the number of arguments set aside.
 #[no_mangle]
 pub extern "C" fn rosenduch_match_tree(
     tree: &[u32],
@@ -103,13 +104,15 @@ pub extern "C" fn rosenduch_match_tree(
     bodies: &mut [u32],
     lengths: &mut [u32; 16],
     rule: &mut u32,
+    aside: &mut u32,
     at: &mut usize,
 ) -> u32
-    ensures { λ r. ⌜ matchTreeCame (saying r (now (at .exit))) (now (rule .exit)) (now (bodies .exit)) (now (lengths .exit))
+    ensures { λ r. ⌜ matchTreeCame (saying r (now (at .exit))) (now (rule .exit)) (now (aside .exit)) (now (bodies .exit)) (now (lengths .exit))
         ≡ matchTreeGives (now (tree .entry)) (now (term .entry)) (length (now (bodies .entry))) ⌝ }
 {
     let found = operations::match_tree(tree, term, bodies, lengths);
     *rule = found.rule;
+    *aside = found.aside;
     let answer = found.answer;
     say(answer, at)
 }

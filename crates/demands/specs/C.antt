@@ -59,10 +59,10 @@ use Rattle.demands.specs.Calls.{AsksNothing, Call}
 pub record CAsksNothing : Type 0 where
   pub check-term : AsksNothing 2 check-term-kinds.ps check-term-reads.Pre
   pub check-book : AsksNothing 2 check-book-kinds.ps check-book-reads.Pre
-  pub match-rule : AsksNothing 5 match-rule-kinds.ps match-rule-reads.Pre
+  pub match-rule : AsksNothing 6 match-rule-kinds.ps match-rule-reads.Pre
   pub build-left : AsksNothing 5 build-left-kinds.ps build-left-reads.Pre
   pub compile : AsksNothing 4 compile-kinds.ps compile-reads.Pre
-  pub match-tree : AsksNothing 6 match-tree-kinds.ps match-tree-reads.Pre
+  pub match-tree : AsksNothing 7 match-tree-kinds.ps match-tree-reads.Pre
   pub rewrite-root : AsksNothing 5 rewrite-root-kinds.ps rewrite-root-reads.Pre
   pub simplify : AsksNothing 6 simplify-kinds.ps simplify-reads.Pre
   pub read-book : AsksNothing 3 read-book-kinds.ps read-book-reads.Pre
@@ -102,12 +102,12 @@ forC =
           × (said ≡ saying (c .result) (now (c .after .1 .0)))
           );
       match-rule = λ book number term room o. (
-          (c : Call 5 match-rule-kinds.ps match-rule-kinds.r match-rule-reads.Post)
+          (c : Call 6 match-rule-kinds.ps match-rule-kinds.r match-rule-reads.Post)
           × (book ≡ now (c .given .0))
           × (number ≡ c .given .1 .0)
           × (term ≡ now (c .given .1 .1 .0))
           × (room ≡ length (now (c .given .1 .1 .1 .0)))
-          × (o ≡ matchRuleCame (saying (c .result) (now (c .after .1 .1 .1 .1 .1 .0))) (now (c .after .1 .1 .1 .0)) (now (c .after .1 .1 .1 .1 .0)))
+          × (o ≡ matchRuleCame (saying (c .result) (now (c .after .1 .1 .1 .1 .1 .1 .0))) (now (c .after .1 .1 .1 .1 .1 .0)) (now (c .after .1 .1 .1 .0)) (now (c .after .1 .1 .1 .1 .0)))
           );
       build-left = λ book number bodies lengths room o. (
           (c : Call 5 build-left-kinds.ps build-left-kinds.r build-left-reads.Post)
@@ -125,11 +125,11 @@ forC =
           × (o ≡ compileCame (saying (c .result) (now (c .after .1 .1 .1 .0))) (now (c .after .1 .1 .0)) (now (c .after .1 .0)))
           );
       match-tree = λ tree term room o. (
-          (c : Call 6 match-tree-kinds.ps match-tree-kinds.r match-tree-reads.Post)
+          (c : Call 7 match-tree-kinds.ps match-tree-kinds.r match-tree-reads.Post)
           × (tree ≡ now (c .given .0))
           × (term ≡ now (c .given .1 .0))
           × (room ≡ length (now (c .given .1 .1 .0)))
-          × (o ≡ matchTreeCame (saying (c .result) (now (c .after .1 .1 .1 .1 .1 .0))) (now (c .after .1 .1 .1 .1 .0)) (now (c .after .1 .1 .0)) (now (c .after .1 .1 .1 .0)))
+          × (o ≡ matchTreeCame (saying (c .result) (now (c .after .1 .1 .1 .1 .1 .1 .0))) (now (c .after .1 .1 .1 .1 .0)) (now (c .after .1 .1 .1 .1 .1 .0)) (now (c .after .1 .1 .0)) (now (c .after .1 .1 .1 .0)))
           );
       rewrite-root = λ book tree term room o. (
           (c : Call 5 rewrite-root-kinds.ps rewrite-root-kinds.r rewrite-root-reads.Post)

@@ -106,7 +106,7 @@ rust =
           × (number ≡ c .given .1 .0)
           × (term ≡ now (c .given .1 .1 .0))
           × (room ≡ length (now (c .given .1 .1 .1 .0)))
-          × (o ≡ matchRuleCame (answered (c .result)) (now (c .after .1 .1 .1 .0)) (now (c .after .1 .1 .1 .1 .0)))
+          × (o ≡ matchRuleCame (answered (c .result .answer)) (c .result .aside) (now (c .after .1 .1 .1 .0)) (now (c .after .1 .1 .1 .1 .0)))
           );
       build-left = λ book number bodies lengths room o. (
           (c : Call 4 build-left-kinds.ps build-left-kinds.r build-left-reads.Post)
@@ -128,7 +128,7 @@ rust =
           × (tree ≡ now (c .given .0))
           × (term ≡ now (c .given .1 .0))
           × (room ≡ length (now (c .given .1 .1 .0)))
-          × (o ≡ matchTreeCame (answered (c .result .answer)) (c .result .rule) (now (c .after .1 .1 .0)) (now (c .after .1 .1 .1 .0)))
+          × (o ≡ matchTreeCame (answered (c .result .answer)) (c .result .rule) (c .result .aside) (now (c .after .1 .1 .0)) (now (c .after .1 .1 .1 .0)))
           );
       rewrite-root = λ book tree term room o. (
           (c : Call 4 rewrite-root-kinds.ps rewrite-root-kinds.r rewrite-root-reads.Post)

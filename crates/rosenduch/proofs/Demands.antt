@@ -1,13 +1,20 @@
 -- The three demands. Each field is one theorem: demand 1 by the definitions' lines, demand 2 by fit and by the machine's steps, demand 3 by the tree of the lowest rule.
-use Rattle.fit.proofs.Laws.{as-dedukti}
+use mathlib.Core.Path.{_≡_}
+use Prim.Native.Nat.{_<_}
+use native.Mathlib.Omega.{arith}
+use Rattle.term.specs.declared.answer.Answer.the-variants.{Done}
+use Rattle.term.specs.Answer.{Answered, answered}
 use Rattle.rosenduch.specs.Operations.{Operations, Promised}
 use Rattle.rosenduch.specs.Demands.{Demand1, Demand2, Demand3}
 use Rattle.rosenduch.proofs.Refusals.{refuses-bad}
 use Rattle.rosenduch.proofs.Zeros.{leaves-zeros}
-use Rattle.rosenduch.proofs.OneRule.{matches-rule, builds-left, built-then, matched-then}
+use Rattle.rosenduch.proofs.OneRule.{as-dedukti-front, matches-rule, builds-left, built-then, matched-then}
 use Rattle.rosenduch.proofs.Trees.{compiles-tree, finds-by-tree}
 use Rattle.rosenduch.proofs.Roots.{rewrites-root, rewrites-by-tree}
 use Rattle.rosenduch.proofs.Runs.{runs-by-tree, runs-by-fit}
+
+below-ten : (said : Answered) → said ≡ answered Done → said .number < 10
+below-ten said e = rw e (omega arith)
 
 module _ (ops : Operations) (kept : Promised ops) where
   pub demand-1 : Demand1 ops
@@ -16,7 +23,7 @@ module _ (ops : Operations) (kept : Promised ops) where
   pub demand-2 : Demand2 ops
   demand-2 =
       record {
-        dedukti = λ book number rule term g f i. as-dedukti book g number rule f term i;
+        dedukti = λ book number rule term g f i. as-dedukti-front book g number rule f term i;
         matches = λ book number rule term g f i room o p. matches-rule book number rule term g f i room o (kept .match-rule book number term room o p);
         rewrites = λ book tree term k i room o p. rewrites-root ops kept book tree term k i room o (kept .rewrite-root book tree term room o p);
         rewrites-by = λ book tree term g i room o p. rewrites-by-tree book tree term g i room o (kept .rewrite-root book tree term room o p);
@@ -28,7 +35,8 @@ module _ (ops : Operations) (kept : Promised ops) where
             (k .0, k .1, λ more h m q. k .2 more h m (kept .match-rule book number (k .0) more m q))
             );
         matched-built = λ book number term room m p d. (
-            let k = matched-then book number term room m (kept .match-rule book number term room m p) d in
+            let i = refuses-bad ops kept .match-rule book number term room m p .3 (below-ten (m .said) d) .1 in
+            let k = matched-then book number term i room m (kept .match-rule book number term room m p) d in
             (k .0, k .1, λ more h o q. k .2 more h o (kept .build-left book number (k .0) (m .lengths) more o q))
             );
       }

@@ -8,33 +8,36 @@ use native.Mathlib.Decide.{decLe}
 use lib.ListN.{getD}
 use Rattle.term.specs.declared.check.Checked.the-variants.{Good}
 use Rattle.term.specs.Row.{Row, words}
+use Rattle.term.specs.Check.{termLimits}
 use Rattle.book.specs.Book.{Rule, checkBook, ruleAt}
 use Rattle.book.proofs.Laws.{rule-number}
 use Rattle.fit.specs.Fit.{IsBody}
-use Rattle.fit.specs.Match.{leftIn}
+use Rattle.fit.specs.Match.{treeOf, leftIn}
 use Rattle.fit.specs.Lowest.{Fitting}
-use Rattle.fit.proofs.Laws.{unique, accepted-good, LowestIs, LowestFits, lowest-none, lowest-some}
+use Rattle.fit.proofs.Laws.{front-unique, accepted-good, body-is-term, tree-of, LowestFrontIs, LowestFrontFits}
 use Rattle.walk.specs.Demand.{NothingFits, LowestFit, OnlyBodies}
 
 module _ (book : List ℕ) (accepted : checkBook book ≡ Good) (t : Row) (i : IsBody t) where
-  pub nothing-fits : LowestIs book 0 (getD book 0 0) t none → NothingFits book (words t)
-  nothing-fits l number rule q b f = lowest-none book 0 (getD book 0 0) t l number (omega arith) (rule-number book number rule q) rule q b f
+  -- the words of a term are read back to it
+  pub same-tree : treeOf (words t) ≡ t
+  same-tree = tree-of termLimits (words t) (body-is-term t i)
 
-  pub lowest-fit : (f : Fitting) → LowestIs book 0 (getD book 0 0) t (some f) → (rule : Rule) × LowestFit book (words t) (f .number) rule (f .bodies)
-  lowest-fit f l = shown (lowest-some book 0 (getD book 0 0) t f l)
-    where
-      shown : LowestFits book 0 (getD book 0 0) t f → (rule : Rule) × LowestFit book (words t) (f .number) rule (f .bodies)
-      shown s = (
-        s .rule,
-        record {
-          is = s .found;
-          fits = s .fits;
-          lowest = λ m h. s .earlier m (omega arith) h;
-        },
-      )
+  pub nothing-fits : LowestFrontIs book 0 (getD book 0 0) t none → NothingFits book (words t)
+  nothing-fits l number rule q b f = l number (omega arith) (rule-number book number rule q) rule q b (rw same-tree at f)
+
+  pub lowest-fit : (f : Fitting) → LowestFrontFits book 0 (getD book 0 0) t f → (rule : Rule) × LowestFit book (words t) (f .number) rule (f .bodies)
+  lowest-fit f s = (
+    s .rule,
+    record {
+      is = s .found;
+      fits = rw same-tree (s .fits);
+      lowest = λ m h rule q b k. s .earlier m (omega arith) h rule q b (rw same-tree at k);
+    },
+  )
 
   pub only-bodies : (number : ℕ) (rule : Rule) (b : ℕ → Row) → LowestFit book (words t) number rule b → OnlyBodies (words t) rule b
-  only-bodies number rule b low c g x h = unique (rule .vars) (leftIn rule) (accepted-good book accepted number rule (low .is)) t (i .within) (i .one) c b g (low .fits) x h
+  only-bodies number rule b low c g x h =
+      front-unique (rule .vars) (leftIn rule) (accepted-good book accepted number rule (low .is)) t i c b (rw same-tree at g) (rw same-tree at (low .fits)) x h
 
 -- ---- two that are the lowest are one
 module _ (book ws : List ℕ) (n m : ℕ) (rule other : Rule) (b c : ℕ → Row) (low : LowestFit book ws n rule b) (also : LowestFit book ws m other c) where

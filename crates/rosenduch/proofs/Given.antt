@@ -3,7 +3,7 @@ use mathlib.Core.Path.{_≡_, refl, sym}
 use mathlib.Core.List.{List}
 use Prim.Native.Nat.{ℕ}
 use Rattle.term.specs.Answer.{answered}
-use Rattle.fit.specs.Match.{matchRule, matchAnswer, matchWords, matchLengths, matchRuleCame, matchRuleGives}
+use Rattle.fit.specs.Match.{matchRule, matchAnswer, matchAside, matchWords, matchLengths, matchRuleCame, matchRuleGives}
 use Rattle.fit.specs.Build.{buildLeft, buildAnswer, buildWords, buildLeftCame, buildLeftGives}
 use Rattle.fit.proofs.Laws.{match-came, build-came}
 use Rattle.compiler.specs.Compiled.{compileAnswer, compileWords, compileLength, compileCame, compileGives}
@@ -16,8 +16,8 @@ use Rattle.steps.proofs.Laws.{rewrite-root-came, simplify-came}
 
 pub match-given : (book : List ℕ) (number : ℕ) (term : List ℕ) (room : ℕ)
     → matchRuleGives book number term room
-    ≡ matchRuleCame (answered (matchAnswer room (matchRule book number term))) (matchWords room (matchRule book number term)) (matchLengths room (matchRule book number term))
-match-given book number term room = sym (match-came book number term room _ _ _ (refl, refl, refl))
+    ≡ matchRuleCame (answered (matchAnswer room (matchRule book number term))) (matchAside room (matchRule book number term)) (matchWords room (matchRule book number term)) (matchLengths room (matchRule book number term))
+match-given book number term room = sym (match-came book number term room _ _ _ _ (refl, refl, refl) refl)
 
 pub build-given : (book : List ℕ) (number : ℕ) (bodies lengths : List ℕ) (room : ℕ)
     → buildLeftGives book number bodies lengths room
@@ -29,8 +29,8 @@ compile-given book room = sym (compile-came book room _ _ _ refl refl refl)
 
 pub tree-given : (tree term : List ℕ) (room : ℕ)
     → matchTreeGives tree term room
-    ≡ matchTreeCame (answered (matchAnswer room (matchTree tree term))) (matchTreeRule room tree term) (matchWords room (matchTree tree term)) (matchLengths room (matchTree tree term))
-tree-given tree term room = sym (tree-came _ _ _ _ tree term room refl refl refl refl)
+    ≡ matchTreeCame (answered (matchAnswer room (matchTree tree term))) (matchTreeRule room tree term) (matchAside room (matchTree tree term)) (matchWords room (matchTree tree term)) (matchLengths room (matchTree tree term))
+tree-given tree term room = sym (tree-came _ _ _ _ _ tree term room refl refl refl refl refl)
 
 pub root-given : (book tree term : List ℕ) (room : ℕ)
     → rewriteRootGives book tree term room

@@ -8,7 +8,7 @@ use native.Mathlib.Omega.{arith}
 use Rattle.term.specs.declared.check.Checked.{Checked}
 use Rattle.term.specs.declared.check.Checked.the-variants.{Good, Bad}
 use Rattle.term.specs.declared.answer.Answer.{Answer}
-use Rattle.term.specs.declared.answer.Answer.the-variants.{BadText, BadTerm, BadBook, Damaged, NoRule}
+use Rattle.term.specs.declared.answer.Answer.the-variants.{BadTerm, BadBook, Damaged, NoRule}
 use Rattle.term.specs.Answer.{Answered, saying, answered}
 use Rattle.term.specs.Checked.{checkedTerm, checkTermGives}
 use Rattle.term.specs.Row.{Row}
@@ -27,7 +27,7 @@ use Rattle.compiler.proofs.Laws.{compile-bad-book}
 use Rattle.walk.specs.Walk.{DamagedAt, walk, noBook, bookFits}
 use Rattle.walk.specs.ByTree.{walkedMatch, matchTree, MatchTreeOutcome}
 use Rattle.walk.proofs.Laws.{tree-bad-term, tree-walked}
-use Rattle.steps.specs.Rewrite.{rewritten, walkedRoot, rewriteRoot, RewriteRootOutcome}
+use Rattle.steps.specs.Rewrite.{walkedRoot, rewriteRoot, RewriteRootOutcome}
 use Rattle.steps.specs.Offset.{spliced}
 use Rattle.steps.specs.Step.{Becomes}
 use Rattle.steps.specs.Simplify.{Run, Stopped, simplify, simplifyAnswer, simplifySteps, SimplifyOutcome}
@@ -160,7 +160,7 @@ module _ (book tree term : List ℕ) (room : ℕ) (said : Answered) (p : said �
   root-term g at e = unbuilt-says room (rewriteRoot book tree term) said (BadTerm at) p (rewrite-bad-term book tree term g at e)
 
   root-damaged : (at : ℕ) → checkBook book ≡ Good → check termLimits term ≡ Good → walk (bookFits book) tree (treeOf term) ≡ DamagedAt at → said ≡ saying 14 at
-  root-damaged at g h e = unbuilt-says room (rewriteRoot book tree term) said (Damaged at) p (rewrite-walked book tree term g h ∙ ap (walkedRoot book) e)
+  root-damaged at g h e = unbuilt-says room (rewriteRoot book tree term) said (Damaged at) p (rewrite-walked book tree term g h ∙ ap (walkedRoot book (treeOf term)) e)
 
   root-passes : said .number < 10 → (checkBook book ≡ Good) × IsTerm term
   root-passes low = let g = book-good said low book root-book in (g, term-is said low term (root-term g))
@@ -174,8 +174,8 @@ module _ (book tree : List ℕ) where
   leads-steps (suc n) t v l =
       let u = l .0 in
       let x = l .1 in
-      let w : withinLimits (spliced t (x .0) (rewritten book (x .1))) ≡ true = sym (ap withinLimits (x .3)) ∙ l .2 in
-      more-steps book tree n t u v (makes-step book tree t (x .0) (x .1) (x .2) w ∙ ap Becomes (sym (x .3))) (leads-steps n u v (l .3))
+      let w : withinLimits (spliced t (x .0) (x .3)) ≡ true = sym (ap withinLimits (x .5)) ∙ l .2 in
+      more-steps book tree n t u v (makes-step book tree t (x .0) (x .1) (x .2) (x .3) (x .4) w ∙ ap Becomes (sym (x .5))) (leads-steps n u v (l .3))
 
   module _ (term : List ℕ) (budget room : ℕ) (said : Answered) (p : said ≡ answered (simplifyAnswer room (simplify book tree budget term))) where
     run-book : BookJudged book said

@@ -11,10 +11,10 @@ use Rattle.term.specs.Answer.{answered}
 use Rattle.term.specs.Check.{IsTerm, termLimits}
 use Rattle.term.proofs.Laws.{tree-good, answered-same}
 use Rattle.book.specs.Book.{checkBook}
-use Rattle.tree.specs.Compile.{bookTree}
+use Rattle.tree.specs.Root.{bookTree}
 use Rattle.tree.specs.Layout.{treeWords}
 use Rattle.tree.proofs.Laws.{Lies}
-use Rattle.compiler.specs.Compiled.{compileAnswer, compileWords, compileLength, CompileOutcome, compileCame, compileGives}
+use Rattle.compiler.specs.Compiled.{compileAnswer, compileWords, compileLength, CompileOutcome, compileCame}
 use Rattle.compiler.proofs.Laws.{TreeMade, done-made, compiled-lies, compiled-short, compile-writes}
 use Rattle.walk.specs.Demand.{TreeFinds}
 use Rattle.walk.specs.ByTree.{MatchTreeOutcome, matchTreeGives}

@@ -6,18 +6,20 @@ use native.Mathlib.Omega.{arith}
 use lib.ListN.{getD}
 use Rattle.term.specs.declared.answer.Answer.{Answer}
 use Rattle.term.specs.declared.answer.Answer.the-variants.{Done}
-use Rattle.term.specs.Answer.{Answered, answered}
+use Rattle.term.specs.Answer.{Answered}
 use Rattle.term.specs.Part.{padded}
 use Rattle.term.proofs.Laws.{answered-same}
-use Rattle.book.specs.Marked.{bookA, bookB}
+use Rattle.book.specs.Marked.{bookA}
 use Rattle.fit.specs.Match.{MatchRuleOutcome, matchRuleGives}
 use Rattle.tree.specs.Layout.{treeWords}
 use Rattle.compiler.specs.Compiled.{CompileOutcome, compileGives}
 use Rattle.walk.specs.ByTree.{MatchTreeOutcome, matchTreeGives}
 use Rattle.mend.proofs.Laws.{wrong-repairs}
+use Rattle.steps.specs.Rewrite.{RewriteRootOutcome}
 use Rattle.steps.specs.Simplify.{SimplifyOutcome, simplifyGives}
+use Rattle.rosenduch.specs.WrongFronts.{silentRule, silentTree, WrongFronts}
 use Rattle.rosenduch.specs.WrongPrograms.{onlyRefuses, sameBody, onlyRule0, onlyNone, handsBack, oneStep, inventsCount, dropsRow, passesEarlierRow, WrongTree, p1, p3, p6, firstTerm, twoRows, secondFits, exchanged, AllShutOut}
-use Rattle.rosenduch.proofs.Computed.{matches-computed, trees-computed, runs-computed, compilers-computed}
+use Rattle.rosenduch.proofs.Computed.{matches-computed, trees-computed, runs-computed, compilers-computed, fronts-computed}
 
 -- two numbers that are known and differ are not equal
 apart : (n m i j : ℕ) → n ≡ i → m ≡ j → (i ≡ j → ⊥) → n ≡ m → ⊥
@@ -66,14 +68,29 @@ invents-count count d e = d (ap (λ (o : SimplifyOutcome). o .steps) e ∙ runs-
 
 -- where the matches differ, so do the trees
 wrong-tree : (wrong : (book : List ℕ) (room : ℕ) → CompileOutcome) (book term : List ℕ)
-    → (matchTreeGives (wrong book 128 .out) term 2 ≡ matchTreeGives (compileGives book 128 .out) term 2 → ⊥) → WrongTree wrong book term
+    → (matchTreeGives (wrong book 1024 .out) term 2 ≡ matchTreeGives (compileGives book 1024 .out) term 2 → ⊥) → WrongTree wrong book term
 wrong-tree wrong book term d = record { compiled = λ e. d (ap (λ (c : CompileOutcome). matchTreeGives (c .out) term 2) e); matched = d }
 
-drops-row : matchTreeGives (dropsRow twoRows 128 .out) secondFits 2 ≡ matchTreeGives (compileGives twoRows 128 .out) secondFits 2 → ⊥
+drops-row : matchTreeGives (dropsRow twoRows 1024 .out) secondFits 2 ≡ matchTreeGives (compileGives twoRows 1024 .out) secondFits 2 → ⊥
 drops-row e = apart _ _ 1 0 (compilers-computed .0) (compilers-computed .1) (λ z. omega (arith, z)) (ap (λ (o : MatchTreeOutcome). o .said .number) e)
 
-passes-earlier-row : matchTreeGives (passesEarlierRow exchanged 128 .out) p6 2 ≡ matchTreeGives (compileGives exchanged 128 .out) p6 2 → ⊥
+passes-earlier-row : matchTreeGives (passesEarlierRow exchanged 1024 .out) p6 2 ≡ matchTreeGives (compileGives exchanged 1024 .out) p6 2 → ⊥
 passes-earlier-row e = apart _ _ 2 1 (compilers-computed .2) (compilers-computed .3) (λ z. omega (arith, z)) (ap (λ (o : MatchTreeOutcome). o .rule) e)
+
+-- ---- rules for a front part of the arguments
+wrong-fronts : WrongFronts
+unfolding silentRule silentTree
+wrong-fronts =
+    let c = fronts-computed in
+    record {
+      equal-counts = λ e. apart _ _ 1 0 (c .0) (c .1) (λ z. omega (arith, z)) (ap said-number e);
+      fewer-arguments = λ e. apart _ _ 0 1 (c .2) (c .3) (λ z. omega (arith, z)) (ap said-number e);
+      silent-rule = λ e. apart 0 _ 0 1 refl (c .4) (λ z. omega (arith, z)) (ap (λ (o : MatchRuleOutcome). o .aside) e);
+      silent-tree = λ e. apart 0 _ 0 1 refl (c .5) (λ z. omega (arith, z)) (ap (λ (o : MatchTreeOutcome). o .aside) e);
+      put-first = λ e. apart _ _ 8 7 (c .6) (c .7) (λ z. omega (arith, z)) (ap (λ (o : RewriteRootOutcome). getD (o .out) 1 0) e);
+      arguments-forgotten = λ e. apart _ _ 0 8 (c .8) (c .9) (λ z. omega (arith, z)) (ap (λ (o : RewriteRootOutcome). getD (o .out) 2 0) e);
+      limits-first = λ e. apart _ _ 15 18 (c .10) (c .11) (λ z. omega (arith, z)) (ap (λ (o : RewriteRootOutcome). o .said .number) e);
+    }
 
 pub all-shut-out : AllShutOut
 all-shut-out =
@@ -92,4 +109,5 @@ all-shut-out =
       drops-row = wrong-tree dropsRow twoRows secondFits drops-row;
       passes-earlier-row = wrong-tree passesEarlierRow exchanged p6 passes-earlier-row;
       wrong-repairs = wrong-repairs;
+      wrong-fronts = wrong-fronts;
     }

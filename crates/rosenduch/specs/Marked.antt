@@ -1,5 +1,5 @@
--- Document 01, "Marked exercises": the tree of book A, and P1 to P10 as one table, under one claim.
-use Prim.Native.Nat.{ℕ}
+-- Document 01, "Marked exercises": the tree of book A, which document 02 gives its size, and P1 to P10 as one table, under one claim.
+use Prim.Native.Nat.{ℕ, _+_}
 use mathlib.Core.Path.{_≡_}
 use mathlib.Core.List.{List, [], _∷_}
 use mathlib.Core.Option.{Option, none, some}
@@ -7,7 +7,9 @@ use lib.ListN.{length, take, getD}
 use Rattle.book.specs.Book.{Rule, ruleAt}
 use Rattle.book.specs.Marked.{s, l, v, bookA, bookB}
 use Rattle.fit.specs.Match.{treeOf, bodyList}
-use Rattle.fit.specs.Lowest.{Fitting, lowest}
+use Rattle.fit.specs.Lowest.{Fitting, lowestFront}
+use Rattle.tree.specs.Tree.{Tree, Fail, Leaf, Switch, Closed, Same, Cases, NoCase, Case}
+use Rattle.tree.specs.Root.{bookTree}
 use Rattle.tree.specs.Layout.{treeWords}
 use Rattle.walk.specs.Walk.{Walked, NoneFits, RuleFits, DamagedAt, walk, noBook}
 
@@ -56,16 +58,31 @@ walkSeen (DamagedAt at) = none
 -- the lowest rule that fits, and the walk over the book's tree, give what is marked
 abbrev pub AsMarked : Marked → Type 0
 AsMarked row =
-    (fitSeen (row .book) (lowest (row .book) 0 (getD (row .book) 0 0) (treeOf (row .term))) ≡ row .seen)
+    (fitSeen (row .book) (lowestFront (row .book) 0 (getD (row .book) 0 0) (treeOf (row .term))) ≡ row .seen)
     × (walkSeen (walk noBook (treeWords (row .book)) (treeOf (row .term))) ≡ some (row .seen))
 
 unfoldable pub AllAsMarked : List Marked → Type 0
 AllAsMarked [] = Unit {0}
 AllAsMarked (row ∷ rows) = AsMarked row × AllAsMarked rows
 
+-- how many nodes of a tree are Fail
+unfoldable mutual
+  pub failsIn : Tree → ℕ
+  failsIn Fail = 1
+  failsIn (Leaf leaf) = 0
+  failsIn (Switch n cs default) = failsInCases cs + failsIn default
+  failsIn (Closed n ys ifYes ifNo) = failsIn ifYes + failsIn ifNo
+  failsIn (Same n m ys zs ifYes ifNo) = failsIn ifYes + failsIn ifNo
+
+  pub failsInCases : Cases → ℕ
+  failsInCases NoCase = 0
+  failsInCases (Case h x cs) = failsIn x + failsInCases cs
+
 pub record MarkedExercises : Type 0 where
-  -- "Book A's tree begins 2 0 2 131074 8 65539 20 50", and has as many words as the program prints, `tree=51`
-  pub tree-begins : take 8 (treeWords bookA) ≡ 2 ∷ 0 ∷ 2 ∷ 131074 ∷ 8 ∷ 65539 ∷ 20 ∷ 50 ∷ []
-  pub tree-has : length (treeWords bookA) ≡ 51
+  -- a Switch at the root with the counts 2 to 15 of symbol 2 and 1 to 15 of symbol 3, the tree of `s2.2` at 62 and that of `s2.3` at 75
+  pub tree-begins : take 7 (treeWords bookA) ≡ 2 ∷ 0 ∷ 29 ∷ 131074 ∷ 62 ∷ 196610 ∷ 75 ∷ []
+  -- "Book A's tree then has 725 words", "with 45 of them Fails"
+  pub tree-has : length (treeWords bookA) ≡ 725
+  pub fails : failsIn (bookTree bookA) ≡ 45
   -- "Matches, proved as marked"
   pub matches : AllAsMarked marked

@@ -8,57 +8,43 @@ use mathlib.Core.List.{List, [], _∷_}
 use mathlib.Core.Option.{Option, none, some}
 use lib.Dec.{leb, eqb}
 use lib.ListN.{length, getD, replicate}
-use Rattle.term.specs.declared.check.Checked.{Checked}
-use Rattle.term.specs.declared.check.Checked.the-variants.{Good, Bad}
 use Rattle.term.specs.declared.answer.Answer.{Answer}
-use Rattle.term.specs.declared.answer.Answer.the-variants.{Done, NoFit, BadTerm, NoRule}
+use Rattle.term.specs.declared.answer.Answer.the-variants.{Done, NoFit}
 use Rattle.term.specs.Answer.{Answered, answered}
 use Rattle.term.specs.Word.{Head, word, pick}
 use Rattle.term.specs.Row.{Row, nothing, node, words}
-use Rattle.term.specs.Check.{check, termLimits}
 use Rattle.term.specs.Renumber.{three, parameter, position, inside, idBody, renumber, named, toBody}
 use Rattle.term.specs.Part.{sameWords, padded}
 use Rattle.book.specs.declared.accept.Accepted.{Accepted}
 use Rattle.book.specs.declared.accept.Accepted.the-variants.{Sound, Refused}
 use Rattle.book.specs.Accept.{accept}
-use Rattle.book.specs.Book.{Rule, ruleAt}
 use Rattle.book.specs.Marked.{s, l, v, m, bookA, bookB}
 use Rattle.fit.specs.Left.{Left, end, hole, part}
 use Rattle.fit.specs.Fit.{Found, bodyThen, bothFound, onlyIf, found, bodyIn, allSame, agreed}
 use Rattle.fit.specs.Constraint.{Place, Constraint}
-use Rattle.fit.specs.Match.{treeOf, leftIn, Matched, refused, fittedO, MatchRuleOutcome, matchRuleCame, matchedCame, matchRuleGives}
+use Rattle.fit.specs.Match.{MatchRuleOutcome, matchRuleCame, matchedCame, matchRuleGives}
 use Rattle.tree.specs.Tree.{Tree, Fail, Switch, Cases, NoCase, Case}
 use Rattle.tree.specs.Path.{OnPath, placeNumbered, start}
 use Rattle.tree.specs.Rows.{RuleRow, headAt, lowestOpen, constraintsLeft, size}
 use Rattle.tree.specs.Compile.{heads, defaultRows, entering, nodeOf, step, bookRows}
+use Rattle.tree.specs.Root.{rootHeads, rootCaseRows}
 use Rattle.tree.specs.Layout.{layout, treeWords}
 use Rattle.compiler.specs.Compiled.{CompileOutcome, compileCame, compileGives}
 use Rattle.walk.specs.ByTree.{MatchTreeOutcome, matchTreeCame, matchTreeGives}
 use Rattle.steps.specs.Simplify.{SimplifyOutcome, simplifyCame, simplifyGives}
 use Rattle.mend.specs.WrongRepairs.{WrongRepairs}
+use Rattle.rosenduch.specs.Matching.{byBook}
+use Rattle.rosenduch.specs.WrongFronts.{WrongFronts}
 
 -- ==== matching one rule
 
 -- a matcher that only refuses
 unfoldable pub onlyRefuses : Answer → (book : List ℕ) (number : ℕ) (term : List ℕ) (room : ℕ) → MatchRuleOutcome
-onlyRefuses a book number term room = matchRuleCame (answered a) (replicate room 0) (replicate 16 0)
+onlyRefuses a book number term room = matchRuleCame (answered a) 0 (replicate room 0) (replicate 16 0)
 
 -- one that writes the same body always
 unfoldable pub sameBody : List ℕ → (book : List ℕ) (number : ℕ) (term : List ℕ) (room : ℕ) → MatchRuleOutcome
-sameBody body book number term room = matchRuleCame (answered Done) (padded room body) (length body ∷ replicate 15 0)
-
--- matching one rule with another way to match a left side
-abbrev pub byTerm : (Left → Row → Option (ℕ → Row)) → Rule → List ℕ → Checked → Matched
-byTerm matches rule term Good = fittedO (rule .vars) (matches (leftIn rule) (treeOf term))
-byTerm matches rule term (Bad at) = refused (BadTerm at)
-
-abbrev pub byRule : (Left → Row → Option (ℕ → Row)) → ℕ → List ℕ → Option Rule → Matched
-byRule matches number term none = refused (NoRule number)
-byRule matches number term (some rule) = byTerm matches rule term (check termLimits term)
-
-abbrev pub byBook : (Left → Row → Option (ℕ → Row)) → List ℕ → ℕ → List ℕ → Accepted → Matched
-byBook matches book number term Sound = byRule matches number term (ruleAt book number)
-byBook matches book number term (Refused a) = refused a
+sameBody body book number term room = matchRuleCame (answered Done) 0 (padded room body) (length body ∷ replicate 15 0)
 
 -- matching a left side with another way from a part to its body
 unfoldable pub foundBy : (ℕ → List ℕ → Row → Option Row) → ℕ → Left → Row → Option Found
@@ -123,11 +109,11 @@ secondUncounted book number term room = matchedCame room (byBook matchingUncount
 
 -- one that answers only rule 0
 unfoldable pub onlyRule0 : (tree term : List ℕ) (room : ℕ) → MatchTreeOutcome
-onlyRule0 tree term room = let o = matchTreeGives tree term room in matchTreeCame (o .said) 0 (o .bodies) (o .lengths)
+onlyRule0 tree term room = let o = matchTreeGives tree term room in matchTreeCame (o .said) 0 (o .aside) (o .bodies) (o .lengths)
 
 -- or only "none"
 unfoldable pub onlyNone : (tree term : List ℕ) (room : ℕ) → MatchTreeOutcome
-onlyNone tree term room = matchTreeCame (answered NoFit) 0 (replicate room 0) (replicate 16 0)
+onlyNone tree term room = matchTreeCame (answered NoFit) 0 0 (replicate room 0) (replicate 16 0)
 
 -- ==== compiling
 
@@ -139,8 +125,13 @@ unfoldable pub madeBy : Making → ℕ → OnPath → List RuleRow → Tree
 madeBy make zero path rows = Fail
 madeBy make (suc n) path rows = make (madeBy make n) path rows
 
+-- below the root Switch
+unfoldable pub rootCasesBy : Making → List RuleRow → List Head → Cases
+rootCasesBy make rows [] = NoCase
+rootCasesBy make rows (h ∷ hs) = Case h (madeBy make (suc (size (entering 0 h start) (rootCaseRows h rows))) (entering 0 h start) (rootCaseRows h rows)) (rootCasesBy make rows hs)
+
 abbrev pub rowsTree : Making → List RuleRow → Tree
-rowsTree make rows = madeBy make (suc (size start rows)) start rows
+rowsTree make rows = Switch 0 (rootCasesBy make rows (rootHeads rows)) Fail
 
 abbrev pub compiledBy : List ℕ → ℕ → Accepted → CompileOutcome
 compiledBy words room Sound = compileCame (answered Done) (length words) (padded room words)
@@ -196,8 +187,8 @@ passesEarlierRow = compileBy passing
 
 -- what a wrong compiler leaves is not what compiling gives, and a match by its tree shows it
 pub record WrongTree (wrong : (book : List ℕ) (room : ℕ) → CompileOutcome) (book term : List ℕ) : Type 0 where
-  pub compiled : wrong book 128 ≡ compileGives book 128 → ⊥
-  pub matched : matchTreeGives (wrong book 128 .out) term 2 ≡ matchTreeGives (compileGives book 128 .out) term 2 → ⊥
+  pub compiled : wrong book 1024 ≡ compileGives book 1024 → ⊥
+  pub matched : matchTreeGives (wrong book 1024 .out) term 2 ≡ matchTreeGives (compileGives book 1024 .out) term 2 → ⊥
 
 -- ==== simplifying
 
@@ -282,3 +273,5 @@ pub record AllShutOut : Type 0 where
   -- those of document 02's E1: one that keeps 65, one that compares `rules=` with the rules kept, one that writes the new number first, one that drops a
   -- sound rule after a bad one
   pub wrong-repairs : WrongRepairs
+  -- those of E2: counts equal at the root too, a rule that fits fewer arguments, nothing said of the arguments, arguments put first or forgotten, 15 before 18
+  pub wrong-fronts : WrongFronts

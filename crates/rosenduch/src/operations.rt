@@ -16,6 +16,7 @@ ghost use Rattle.mend.specs.Repair.{repairBookCame, repairBookGives};
 ghost use Rattle.text.specs.BookText.{readBookCame, readBookGives, writeBookCame, writeBookGives};
 use book::accept::Accepted;
 use compiler::compile::Compiled;
+use fit::rules::RuleMatch;
 use steps::simplify::Simplified;
 use term::answer::Answer;
 use term::check::Checked;
@@ -41,16 +42,17 @@ pub fn check_book(book: &[u32]) -> Answer
     }
 }
 
-// Matches the rule of this number against a term. Done, with the bodies in variable order, zeros after them, and their lengths; NoFit where
-// no bodies turn the left side into the term; else BadBook, NoRule, BadTerm, or Short where the bodies have no room.
+// Matches the rule of this number against a term. Done, with how many of the term's last arguments are set aside, the bodies in variable order,
+// zeros after them, and their lengths; NoFit where no bodies turn the left side into the term without the arguments set aside; else BadBook,
+// NoRule, BadTerm, or Short where the bodies have no room.
 pub fn match_rule(
     book: &[u32],
     number: u32,
     term: &[u32],
     bodies: &mut [u32],
     lengths: &mut [u32; 16],
-) -> Answer
-    ensures { λ r. ⌜ matchRuleCame (answered r) (now (bodies .exit)) (now (lengths .exit)) ≡ matchRuleGives (now (book .entry)) number (now (term .entry)) (length (now (bodies .entry))) ⌝ }
+) -> RuleMatch
+    ensures { λ r. ⌜ matchRuleCame (answered (r .answer)) (r .aside) (now (bodies .exit)) (now (lengths .exit)) ≡ matchRuleGives (now (book .entry)) number (now (term .entry)) (length (now (bodies .entry))) ⌝ }
 {
     fit::rules::match_rule(book, number, term, bodies, lengths)
 }
@@ -77,21 +79,23 @@ pub fn compile(book: &[u32], out: &mut [u32]) -> Compiled
     compiler::compile::compile(book, out)
 }
 
-// Matches a term by a tree, whole or damaged. Done, with the rule that the tree names, its bodies in variable order, zeros after them, and
-// their lengths; NoFit where it names none; else BadTerm, Damaged with a node's address, or Short where the bodies have no room.
+// Matches a term by a tree, whole or damaged. Done, with the rule that the tree names, how many of the term's last arguments are set aside,
+// the bodies in variable order, zeros after them, and their lengths; NoFit where it names none; else BadTerm, Damaged with a node's address,
+// or Short where the bodies have no room.
 pub fn match_tree(
     tree: &[u32],
     term: &[u32],
     bodies: &mut [u32],
     lengths: &mut [u32; 16],
 ) -> TreeMatch
-    ensures { λ r. ⌜ matchTreeCame (answered (r .answer)) (r .rule) (now (bodies .exit)) (now (lengths .exit)) ≡ matchTreeGives (now (tree .entry)) (now (term .entry)) (length (now (bodies .entry))) ⌝ }
+    ensures { λ r. ⌜ matchTreeCame (answered (r .answer)) (r .rule) (r .aside) (now (bodies .exit)) (now (lengths .exit)) ≡ matchTreeGives (now (tree .entry)) (now (term .entry)) (length (now (bodies .entry))) ⌝ }
 {
     walk::by_tree::match_tree(tree, term, bodies, lengths)
 }
 
-// Rewrites a term at its root by the rule that the tree names. Done, with the new term and zeros after it; NoFit where it names none; else
-// BadBook, BadTerm, Damaged, Over where the new term is over a limit, or Short.
+// Rewrites a term at its root by the rule that the tree names; the arguments set aside stand at the end of what is written. Done, with the new
+// term and zeros after it; NoFit where it names none; else BadBook, BadTerm, Damaged, CannotTake with the number of the arguments where what is
+// written is no symbol with room for them, Over where the new term is over a limit, or Short.
 pub fn rewrite_root(book: &[u32], tree: &[u32], term: &[u32], out: &mut [u32]) -> Answer
     ensures { λ r. ⌜ rewriteRootCame (answered r) (now (out .exit)) ≡ rewriteRootGives (now (book .entry)) (now (tree .entry)) (now (term .entry)) (length (now (out .entry))) ⌝ }
 {
@@ -99,7 +103,7 @@ pub fn rewrite_root(book: &[u32], tree: &[u32], term: &[u32], out: &mut [u32]) -
 }
 
 // Simplifies a term by steps, at most so many as the budget. Done where no rule fits anywhere, BudgetUsed where one still does, each with the
-// term so far, zeros after it, and the steps made; else BadBook, BadTerm, Damaged, Over or Short, with the steps completed.
+// term so far, zeros after it, and the steps made; else BadBook, BadTerm, Damaged, CannotTake, Over or Short, with the steps completed.
 pub fn simplify(
     book: &[u32],
     tree: &[u32],

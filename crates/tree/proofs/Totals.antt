@@ -1,11 +1,11 @@
 -- Each uncovered place is another part of the term, so there are no more than the term has words.
-use mathlib.Core.Path.{_≡_, refl, sym, ap, _∙_}
-use mathlib.Core.Bool.{Bool, true, false}
+use mathlib.Core.Path.{_≡_, sym, ap, _∙_}
+use mathlib.Core.Bool.{false}
 use mathlib.Core.List.{List, [], _∷_, _++_}
-use Prim.Native.Nat.{ℕ, zero, suc, _+_, _≤_, _<_}
+use Prim.Native.Nat.{ℕ, zero, suc, _+_, _≤_}
 use native.Mathlib.Omega.{arith}
 use lib.ListN.{length, length-append}
-use Rattle.term.specs.Word.{Head, pick}
+use Rattle.term.specs.Word.{Head}
 use Rattle.term.specs.Row.{Row, nothing, node, width, words}
 use Rattle.term.proofs.Laws.{never, words-nothing, words-node, width-nothing, width-node}
 use Rattle.fit.specs.Constraint.{childrenOf}

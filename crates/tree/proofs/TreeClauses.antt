@@ -5,12 +5,12 @@ use mathlib.Core.Option.{Option, none, some}
 use Prim.Native.Nat.{ℕ, zero, suc, _+_}
 use native.Mathlib.Omega.{arith}
 use lib.Dec.{eqb}
-use lib.ListN.{length, getD, length-append}
+use lib.ListN.{length, length-append}
 use Rattle.term.specs.Word.{Head, word, count, pick}
 use Rattle.book.specs.Book.{ruleAt}
 use Rattle.fit.specs.Constraint.{Place, Occurrence, firstOf, Constraint, closedAt, sameAt}
-use Rattle.tree.specs.Tree.{Tree, Fail, Leaf, Switch, Cases, NoCase, Case}
-use Rattle.tree.specs.Path.{Uncovered, OnPath, placeNumbered, numberIn, enter, start}
+use Rattle.tree.specs.Tree.{Tree, Fail, Leaf, Switch, NoCase, Case}
+use Rattle.tree.specs.Path.{Uncovered, OnPath, placeNumbered, numberIn, enter}
 use Rattle.tree.specs.Rows.{RuleRow, headAt, lowestOpen, constraintsLeft}
 use Rattle.tree.specs.Compile.{without, addHead, heads, caseRows, defaultRows, entering, holding, rowsWithout, testOf, variableAt, variablesFrom, leafNodeOf, leafOf, casesOf, nodeOf, step, compile, rowThen, bookRows}
 use Rattle.tree.specs.Layout.{caseCount, long, layout}
