@@ -39,7 +39,7 @@
  *  - No pointer is NULL, not even with the length 0. A pointer to words is aligned for them.
  *  - Lengths are in elements: words of 32 bits, or bytes where the pointer is to bytes. The lengths of bodies are always sixteen words.
  *  - What is written (outputs, further results, at) overlaps nothing else that is passed in the same call.
- *  - 2 MiB of stack are free. Compiling took 1.4 MiB at the worst that was measured, every other call less than half a MiB. The main thread
+ *  - 2 MiB of stack are free. Compiling took 1.3 MiB at the worst that was measured, every other call less than half a MiB. The main thread
  *    of a process commonly has 8 MiB; a thread may have to be given more than its default.
  */
 #ifndef ROSENDUCH_H

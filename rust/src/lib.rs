@@ -39,7 +39,7 @@
 //! functions here lend buffers of the largest sizes that results can have, so they refuse by 13 only a tree over 16,384 words and a
 //! book text over 65,536 bytes. The functions of [`raw`] take the caller's buffers.
 //!
-//! A call needs up to 2 MiB of stack: compiling took 1.4 MiB at the worst that was measured, every other call less than half a MiB. The main
+//! A call needs up to 2 MiB of stack: compiling took 1.3 MiB at the worst that was measured, every other call less than half a MiB. The main
 //! thread has them; a thread that compiles is best given 4 MiB (`std::thread::Builder::stack_size`).
 
 #![deny(unsafe_code)]
