@@ -21,11 +21,13 @@ use Rattle.walk.specs.told.Taken.{CaseTold}
 use Rattle.walk.specs.declared.taken.Taken.the-variants.{Not}
 use Rattle.walk.specs.declared.state.Walk.{Walk}
 use Rattle.walk.specs.declared.with_book.BookMatch.{BookMatch}
+use Rattle.walk.specs.declared.with_book.BookWalk.{BookWalk}
 use Rattle.walk.specs.declared.with_book.BookMatch.the-variants as found
 use Rattle.walk.specs.told.State.{partFrom, placesOf, Parted, leafIn, leafRule, WalkTold, LeafWritten}
-use Rattle.walk.specs.told.WithBook.{bookWalk, leafFits, SkipTold, BookWalked}
+use Rattle.walk.specs.told.WithBook.{bookWalk, bookVisits, leafFits, SkipTold, BookWalked}
 use Rattle.walk.proofs.Uncovered.{one-tree, from-stands}
-use Rattle.walk.proofs.Answers.{ended-none, ended-damaged, ended-leaf, ended-sound}
+use Rattle.walk.proofs.Visits.{visits-walked, visits-long}
+use Rattle.walk.proofs.Answers.{ended-visits, ended-none, ended-damaged, ended-leaf, ended-sound}
 use Rattle.walk.proofs.Sound.{FoundSound, walk-sound}
 use Rattle.walk.proofs.Skips.{no-case}
 use Rattle.walk.proofs.BookLeaf.{judged-by}
@@ -93,6 +95,9 @@ module _ (book table ws : List ℕ) (short : length table ≤ 16384) where
   unfolding walk
   walk-here = rw (le-leb (length table) 16384 short)
 
+  pub with-visits : (s : Walk) → WalkTold table ws s → s .visits ≡ bookVisits table ws
+  with-visits s t = ended-visits table ws s t ∙ sym (visits-walked table (partFrom ws 0) short)
+
   module _ (s : Walk) (t : WalkTold table ws s) (r : BookMatch) (bodies lengths : List ℕ) where
     module _ (b : bodies ≡ replicate 65536 0) (l : lengths ≡ replicate 16 0) where
       pub with-none : s .stands ≡ 1 → r ≡ found.None → BookWalked (bookWalk book table ws) r bodies lengths
@@ -139,19 +144,29 @@ module _ (book table ws : List ℕ) (short : length table ≤ 16384) where
 
 -- ---- before the walk
 module _ (book table ws : List ℕ) (r : BookMatch) (bodies lengths : List ℕ) (b : bodies ≡ replicate 65536 0) (l : lengths ≡ replicate 16 0) where
-  pub with-long : 16384 < length table → r ≡ found.Damaged 16384 → BookWalked (bookWalk book table ws) r bodies lengths
+  pub with-long : 16384 < length table → r ≡ found.Damaged 16384 → BookWalked (bookWalk book table ws) r bodies lengths × (0 ≡ bookVisits table ws)
   unfolding BookWalked walk
-  with-long h e = rw (lt-leb (length table) 16384 h) (e, b, l)
+  with-long h e = (rw (lt-leb (length table) 16384 h) (e, b, l), sym (visits-long table (partFrom ws 0) h))
 
-  pub with-skip : length table ≤ 16384 → Parted ws → 0 < length ws → (skip : Bool) → skip ≡ true → SkipTold table (getD ws 0 0) skip → r ≡ found.None → BookWalked (bookWalk book table ws) r bodies lengths
+  pub with-skip : length table ≤ 16384 → Parted ws → 0 < length ws → (skip : Bool) → skip ≡ true → SkipTold table (getD ws 0 0) skip → r ≡ found.None
+      → BookWalked (bookWalk book table ws) r bodies lengths × (2 ≡ bookVisits table ws)
   unfolding BookWalked
   with-skip h p n skip z k e =
       let q : SkipTold table (getD ws 0 0) true = rw z at k in
-      rw (q (bookFits book) (partFrom ws 0) (part-word ws p n) h) (e, b, l)
+      let k = q (bookFits book) (partFrom ws 0) (part-word ws p n) h in
+      (rw (k .0) (e, b, l), sym (k .1))
 
--- ---- the promise of the walk with a book settles its answer and every lent word
-pub book-settled : (w : Walked) (r q : BookMatch) (b c l m : List ℕ) → BookWalked w r b l → BookWalked w q c m → (r ≡ q) × (b ≡ c) × (l ≡ m)
+-- ---- the promise of the walk with a book settles its answer, its visits and every lent word
+found-settled : (w : Walked) (r q : BookMatch) (b c l m : List ℕ) → BookWalked w r b l → BookWalked w q c m → (r ≡ q) × (b ≡ c) × (l ≡ m)
 unfolding BookWalked
-book-settled NoneFits r q b c l m x y = (x .0 ∙ sym (y .0), x .1 ∙ sym (y .1), x .2 ∙ sym (y .2))
-book-settled (RuleFits f n) r q b c l m x y = (x .0 ∙ sym (y .0), x .1 ∙ sym (y .1), x .2 ∙ sym (y .2))
-book-settled (DamagedAt at) r q b c l m x y = (x .0 ∙ sym (y .0), x .1 ∙ sym (y .1), x .2 ∙ sym (y .2))
+found-settled NoneFits r q b c l m x y = (x .0 ∙ sym (y .0), x .1 ∙ sym (y .1), x .2 ∙ sym (y .2))
+found-settled (RuleFits f n) r q b c l m x y = (x .0 ∙ sym (y .0), x .1 ∙ sym (y .1), x .2 ∙ sym (y .2))
+found-settled (DamagedAt at) r q b c l m x y = (x .0 ∙ sym (y .0), x .1 ∙ sym (y .1), x .2 ∙ sym (y .2))
+
+pub book-settled : (w : Walked) (v : ℕ) (r q : BookWalk) (b c l m : List ℕ) → BookWalked w (r .found) b l × (r .visits ≡ v) → BookWalked w (q .found) c m × (q .visits ≡ v) → (r ≡ q) × (b ≡ c) × (l ≡ m)
+book-settled w v r q b c l m x y =
+    let e = found-settled w (r .found) (q .found) b c l m (x .0) (y .0) in
+    (same (r .found) (q .found) (r .visits) (q .visits) (e .0) (x .1 ∙ sym (y .1)), e .1, e .2)
+  where
+    same : (f g : BookMatch) (n k : ℕ) → f ≡ g → n ≡ k → _≡_ {A = BookWalk} (record { found = f; visits = n }) (record { found = g; visits = k })
+    same f g n k e z = rw (e, z)

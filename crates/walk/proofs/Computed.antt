@@ -1,4 +1,4 @@
--- Document 01's kinds of damage, computed from the definitions.
+-- Document 01's kinds of damage, and the visits of document 02, computed from the definitions.
 use mathlib.Core.Path.{_≡_, refl}
 use mathlib.Core.Bool.{Bool}
 use mathlib.Core.List.{List, [], _∷_}
@@ -15,7 +15,7 @@ use Rattle.fit.specs.Constraint.{childrenOf, isHead, bodyHere}
 use Rattle.fit.specs.Match.{treeOf, leftIn, bodyList}
 use Rattle.tree.specs.Tree.{countsOf, LeafNode}
 use Rattle.tree.specs.Find.{rootCount, partOf, markedPart, childParts, insideOf, enterPart, bodyFor, leafBody}
-use Rattle.walk.specs.Walk.{Walked, NoneFits, RuleFits, DamagedAt, goTo, variablesIn, soundVariable, soundVariables, leafNode, isWord, caseOf, switchNode, closedNode, sameNode, nodeAt, nextAt, walkBy, walkFrom, walk, countsFit, bookFits, noBook}
+use Rattle.walk.specs.Walk.{Walked, NoneFits, RuleFits, DamagedAt, goTo, variablesIn, soundVariable, soundVariables, leafNode, isWord, caseOf, switchNode, closedNode, sameNode, nodeAt, nextAt, walkBy, walkFrom, walk, visitsBy, visitsFrom, visits, countsFit, bookFits, noBook}
 
 -- how a walk ends: the rule, how many arguments are set aside, and its bodies in words; the address of a damaged node
 pub data Seen : Type 0 where
@@ -71,6 +71,23 @@ damages :
     × (walked noBook (1 ∷ 0 ∷ 0 ∷ 2 ∷ []) term7 ≡ damage 0)
 unfolding word kind count ident headOf headWith words read firsts others position listed goodList inside idBody renumberHead renumber namedHead named closed toBody sameWords idsOf counted ruleOf nthRule ruleAt leftOf childrenOf isHead bodyHere treeOf leftIn bodyList countsOf partOf markedPart childParts insideOf enterPart bodyFor leafBody rootCount goTo variablesIn soundVariable soundVariables leafNode isWord caseOf switchNode closedNode sameNode nodeAt nextAt walkBy walkFrom walk countsFit bookFits noBook s l v m term7 term-l
 damages = (refl, refl, refl, refl, refl, refl, refl, refl, refl, refl, refl, refl, refl, refl, refl, refl, refl)
+
+-- "the last node included", "up to and including the damaged node"
+counts :
+    (visits [] (treeOf term7) ≡ 1)
+    × (visits (5 ∷ []) (treeOf term7) ≡ 1)
+    × (visits (0 ∷ []) (treeOf term7) ≡ 1)
+    × (visits (1 ∷ 0 ∷ 0 ∷ 1 ∷ []) (treeOf term7) ≡ 1)
+    × (visits (1 ∷ 0 ∷ 0 ∷ 2 ∷ []) (treeOf term7) ≡ 1)
+    -- a root that has no case for the word, and its default
+    × (visits (2 ∷ 0 ∷ 1 ∷ l ∷ 6 ∷ 6 ∷ 0 ∷ []) (treeOf term7) ≡ 2)
+    -- the address that is taken is not inside
+    × (visits (3 ∷ 0 ∷ 0 ∷ 6 ∷ 5 ∷ 0 ∷ []) (treeOf term7) ≡ 1)
+    -- a case is taken at a place already entered
+    × (visits (2 ∷ 0 ∷ 1 ∷ s 3 1 ∷ 6 ∷ 12 ∷ 2 ∷ 0 ∷ 1 ∷ s 3 1 ∷ 12 ∷ 12 ∷ 0 ∷ []) (treeOf term7) ≡ 2)
+    × (visits (2 ∷ 0 ∷ 1 ∷ s 3 1 ∷ 6 ∷ 12 ∷ 2 ∷ 1 ∷ 1 ∷ s 7 0 ∷ 12 ∷ 12 ∷ 0 ∷ []) (treeOf term7) ≡ 3)
+unfolding word kind count ident headOf headWith words read firsts others position listed goodList inside idBody renumberHead renumber namedHead named closed toBody sameWords idsOf counted ruleOf nthRule ruleAt leftOf childrenOf isHead bodyHere treeOf leftIn bodyList countsOf partOf markedPart childParts insideOf enterPart bodyFor leafBody rootCount goTo variablesIn soundVariable soundVariables leafNode isWord caseOf switchNode closedNode sameNode nodeAt nextAt visitsBy visitsFrom visits s l v m term7
+counts = (refl, refl, refl, refl, refl, refl, refl, refl, refl)
 
 -- "Where a book is given too, a Leaf whose rule, n or counts don't fit it is damaged", and "with a book any other number than a−b"
 damages-A :

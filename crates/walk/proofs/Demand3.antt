@@ -24,8 +24,8 @@ use Rattle.fit.specs.Lowest.{Fitting, lowestFront}
 use Rattle.fit.proofs.Laws.{term-is-body, tree-of, front-unique, LowestFrontIs, LowestFrontFits, accepted-good, book-lowest-front, refused-answer, fitted-room, fitted-short, same-bodies}
 use Rattle.tree.specs.Root.{bookTree}
 use Rattle.tree.proofs.Laws.{Lies, varsOf, varsIn}
-use Rattle.walk.specs.Walk.{walk, noBook}
-use Rattle.walk.specs.ByTree.{walkedMatch, walkedRule, matchTree, matchTreeRule, MatchTreeOutcome, ruleGives, matchTreeGives}
+use Rattle.walk.specs.Walk.{walk, visits, noBook}
+use Rattle.walk.specs.ByTree.{walkedMatch, walkedRule, matchTree, matchTreeRule, matchTreeVisits, MatchTreeOutcome, ruleGives, matchTreeGives}
 use Rattle.walk.specs.Demand.{NothingFits, LowestFit, OnlyBodies, Names, TreeFinds}
 use Rattle.walk.proofs.Laid.{walkedOf, begun-alone}
 
@@ -76,8 +76,8 @@ module _ (book : List ℕ) (accepted : checkBook book ≡ Good) (tree : List ℕ
   walked = rw (tree-of termLimits ws term) (begun-alone book accepted (term .tree) (term .formed) (term .one) tree short lies)
 
   module _ (room : ℕ) (o : MatchTreeOutcome) (came : o ≡ matchTreeGives tree ws room) where
-    gave : (f : Option Fitting) → best ≡ f → o ≡ ruleGives room (walkedMatch (walkedOf (varsIn book) f)) (walkedRule room (walkedOf (varsIn book) f))
-    unfolding matchTreeGives matchTree matchTreeRule
+    gave : (f : Option Fitting) → best ≡ f → o ≡ ruleGives room (walkedMatch (walkedOf (varsIn book) f)) (walkedRule room (walkedOf (varsIn book) f)) (visits tree (treeOf ws))
+    unfolding matchTreeGives matchTree matchTreeRule matchTreeVisits
     gave f e = came ∙ rw (good, walked, e)
 
     -- no rule fits
@@ -103,7 +103,7 @@ module _ (book : List ℕ) (accepted : checkBook book ≡ Good) (tree : List ℕ
       abbrev long : ℕ
       long = length (bodyList (f .bodies) 0 (rule .vars))
 
-      by-rule : o ≡ ruleGives room (fitted (rule .vars) (f .aside) (f .bodies)) (pick (leb long room) (f .number) 0)
+      by-rule : o ≡ ruleGives room (fitted (rule .vars) (f .aside) (f .bodies)) (pick (leb long room) (f .number) 0) (visits tree (treeOf ws))
       by-rule = rw vars at (gave (some f) e)
 
       with-room : long ≤ room → Names ws room (f .number) rule (f .bodies) o

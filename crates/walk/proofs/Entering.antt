@@ -347,8 +347,9 @@ module _ (term : List ℕ) (s : Walk) (p : Parted term) (h : Holds term s) (n : 
         sym (append-nil (placesFrom (placeIn term offsets depths entered) 0 count))
         ∙ ap (λ (l : List PartAt). placesFrom (placeIn term offsets depths entered) 0 count ++ l) (sym none-left) ∙ e .told
 
-    pub entering-told : (at stands : ℕ) → stands ≡ s .stands → EnterTold term s n at (record { offsets = offsets; depths = depths; entered = entered; count = count; at = at; stands = stands })
-    entering-told at stands same =
+    pub entering-told : (at stands visits : ℕ) → stands ≡ s .stands → visits ≡ s .visits
+        → EnterTold term s n at (record { offsets = offsets; depths = depths; entered = entered; count = count; at = at; stands = stands; visits = visits })
+    entering-told at stands visits same visited =
         let l = ap length entering-places in
         record {
           holds =
@@ -364,4 +365,5 @@ module _ (term : List ℕ) (s : Walk) (p : Parted term) (h : Holds term s) (n : 
           places = entering-places;
           there = refl;
           same = same;
+          visited = visited;
         }

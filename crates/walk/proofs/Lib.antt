@@ -12,6 +12,7 @@ mod Outcomes
 mod Answers
 mod Nodes
 mod Steps
+mod Visits
 mod Places
 mod Sound
 mod Skips

@@ -2,7 +2,7 @@
 use mathlib.Core.Path.{_≡_, _∙_}
 use mathlib.Core.Bool.{Bool, true, false, _&&_}
 use mathlib.Core.List.{List}
-use Prim.Native.Nat.{ℕ, zero, suc, _<_}
+use Prim.Native.Nat.{ℕ, zero, suc, _+_, _<_}
 use native.Mathlib.Omega.{arith}
 use lib.Dec.{ltb}
 use lib.ListN.{length, getD}
@@ -52,6 +52,14 @@ module _ (table term : List ℕ) (s : Walk) (to : ℕ) where
   go-in l = λ fits. rw l
 
 -- ---- the state that lends its fields, and the state that is handed on
+-- one more node is visited
+abbrev pub counted : Walk → Walk
+counted s = record { offsets = s .offsets; depths = s .depths; entered = s .entered; count = s .count; at = s .at; stands = s .stands; visits = s .visits + 1 }
+
+pub holds-counted : (term : List ℕ) (s : Walk) → Holds term s → Holds term (counted s)
+holds-counted term s h =
+    record { offsets-long = h .offsets-long; depths-long = h .depths-long; entered-long = h .entered-long; within = h .within; low = h .low; few = h .few; room = h .room }
+
 pub holds-seen : (term : List ℕ) (s : Walk) (at : ℕ) → Holds term s → Holds term (seen (s .offsets) (s .depths) (s .entered) (s .count) at)
 holds-seen term s at h =
     record { offsets-long = h .offsets-long; depths-long = h .depths-long; entered-long = h .entered-long; within = h .within; low = h .low; few = h .few; room = h .room }

@@ -1,4 +1,4 @@
--- The walk, node by node: the walk from here is the walk from the start, and each node is later, so it ends.
+-- The walk, node by node: the walk from here is the walk from the start, each node is one more visit, and it is later, so the walk ends.
 use mathlib.Core.Path.{_≡_, refl, ap, _∙_}
 use mathlib.Core.Bool.{Bool, true, false}
 use mathlib.Core.List.{List, [], _∷_}
@@ -13,12 +13,13 @@ use Rattle.term.specs.Row.{words}
 use Rattle.tree.specs.Tree.{LeafNode}
 use Rattle.tree.specs.Find.{PartAt, rootPart}
 use Rattle.tree.proofs.Laws.{total-root}
-use Rattle.walk.specs.Walk.{Walked, DamagedAt, Ends, unless, leafNode, switchNode, closedNode, sameNode, nodeAt, nextAt, follow, walkFrom}
+use Rattle.walk.specs.Walk.{Walked, DamagedAt, Next, Ends, unless, leafNode, switchNode, closedNode, sameNode, nodeAt, nextAt, follow, walkFrom, visitsAfter, visitsFrom}
 use Rattle.walk.specs.declared.state.Walk.{Walk}
 use Rattle.walk.specs.declared.decide.Decision.{Decision}
 use Rattle.walk.specs.declared.decide.Decision.the-variants.{Stop}
-use Rattle.walk.specs.told.State.{entryAt, partFrom, placeIn, placesFrom, placesOf, Parted, Holds, leafIn, leafRule, Said, NodeDecided, SwitchDecided, ClosedDecided, SameDecided, LeafDecided, Stood, Standing, WalkTold}
+use Rattle.walk.specs.told.State.{entryAt, partFrom, placeIn, placesFrom, placesOf, Parted, Holds, leafIn, leafRule, Said, NodeDecided, SwitchDecided, ClosedDecided, SameDecided, LeafDecided, Stood, Standing, visitsHere, Visited, WalkTold}
 use Rattle.walk.proofs.Steps.{later-next, walk-is}
+use Rattle.walk.proofs.Visits.{visits-is, from-few}
 use Rattle.walk.proofs.Tells.{Told, decided-same, decided-damaged, decided-no-rule}
 use Rattle.walk.proofs.Uncovered.{from-stands}
 
@@ -105,6 +106,27 @@ module _ (table term : List ℕ) (s r : Walk) (going : s .stands ≡ 0) (t : Tol
           }
       go (suc (suc (suc n))) e = λ fits. here fits ∙ ap (follow (walkFrom fits table)) (e fits)
 
+  pub step-visits : r .visits ≡ s .visits + 1 → Visited table term s → Visited table term r
+  unfolding Told Visited
+  step-visits one v = go (r .stands) (t .1)
+    where
+      whole : s .visits + visitsFrom table (s .at) (placesOf term s) ≡ visitsHere table term
+      whole = rw (eq-eqb (s .stands) 0 going) at v
+
+      from : (next : Next) → nextAt (λ leaf. true) table (s .at) (placesOf term s) ≡ next → visitsFrom table (s .at) (placesOf term s) ≡ suc (visitsAfter (visitsFrom table) next)
+      from next e = visits-is table (λ leaf. true) (s .at) (placesOf term s) ∙ ap (λ (n : Next). suc (visitsAfter (visitsFrom table) n)) e
+
+      go : (n : ℕ) → Said table term (λ fits. nextAt fits table (s .at) (placesOf term s)) r n → r .visits + pick (eqb n 0) (visitsFrom table (r .at) (placesOf term r)) 0 ≡ visitsHere table term
+      go zero e = omega (arith, one, whole, from _ (e (λ leaf. true)))
+      go (suc zero) e = omega (arith, one, whole, from _ (e (λ leaf. true)))
+      go (suc (suc zero)) e = omega (arith, one, whole, from _ (e .ends (λ leaf. true)))
+      go (suc (suc (suc n))) e = rw (ne-eqb (suc (suc (suc n))) 0 (λ z. omega arith)) (omega (arith, one, whole, from _ (e (λ leaf. true))))
+
+-- there is room to count one more
+pub visits-room : (table term : List ℕ) (s : Walk) → Visited table term s → length table ≤ 16384 → s .visits ≤ 16385
+unfolding Visited
+visits-room table term s v l = omega (arith, v, l, from-few table 0 (rootPart (partFrom term 0)))
+
 -- ---- the root
 module _ (term : List ℕ) (p : Parted term) (some-words : 0 < length term) where
   entry-place : placeIn term (replicate 4096 0) (replicate 4096 0) (replicate 4096 false) 0 ≡ record { part = partFrom term 0; depth = 0; entered = false }
@@ -134,9 +156,15 @@ module _ (term : List ℕ) (p : Parted term) (some-words : 0 < length term) wher
   unfolding Standing
   entry-stands table = (entry-holds, λ fits. rw (entry-places))
 
-pub walk-ended : (table term : List ℕ) (s : Walk) → Standing table term (λ fits. walkFrom fits table 0 (rootPart (partFrom term 0))) s → (s .stands ≡ 0 → ⊥) → WalkTold table term s
-unfolding WalkTold
-walk-ended table term s t n = (t, n)
+  pub entry-visits : (table : List ℕ) → Visited table term entryAt
+  unfolding Visited
+  entry-visits table = rw (entry-places) (omega arith)
+
+pub walk-ended : (table term : List ℕ) (s : Walk) → Standing table term (λ fits. walkFrom fits table 0 (rootPart (partFrom term 0))) s → Visited table term s → (s .stands ≡ 0 → ⊥) → WalkTold table term s
+unfolding WalkTold Visited
+walk-ended table term s t v n =
+    let e : s .visits + 0 ≡ visitsHere table term = rw (ne-eqb (s .stands) 0 n) at v in
+    (t, n, omega (arith, e))
 
 pub standing-holds : (table term : List ℕ) (walked : (LeafNode → Bool) → Walked) (s : Walk) → Standing table term walked s → Holds term s
 unfolding Standing

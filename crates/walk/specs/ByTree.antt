@@ -1,5 +1,5 @@
 -- What matching by the tree answers: document 01's numbers 11, 14, 1, 13, in this order. What is set aside, its words and lengths are those of matching
--- one rule.
+-- one rule; the visits are those of the walk (document 02, E7).
 use Prim.Native.Nat.{ℕ}
 use mathlib.Core.List.{List}
 use lib.Dec.{leb}
@@ -11,7 +11,7 @@ use Rattle.term.specs.declared.answer.Answer.the-variants.{NoFit, BadTerm, Dama
 use Rattle.term.specs.Answer.{Answered, answered}
 use Rattle.term.specs.Check.{check, termLimits}
 use Rattle.fit.specs.Match.{treeOf, bodyList, Matched, refused, fitted, matchAnswer, matchAside, matchWords, matchLengths}
-use Rattle.walk.specs.Walk.{Walked, NoneFits, RuleFits, DamagedAt, walk, noBook}
+use Rattle.walk.specs.Walk.{Walked, NoneFits, RuleFits, DamagedAt, walk, visits, noBook}
 
 abbrev pub walkedMatch : Walked → Matched
 walkedMatch NoneFits = refused NoFit
@@ -38,21 +38,30 @@ termRule room (Bad at) w = 0
 unfoldable pub matchTreeRule : ℕ → List ℕ → List ℕ → ℕ
 matchTreeRule room table ws = termRule room (check termLimits ws) (walk noBook table (treeOf ws))
 
+-- the nodes that the walk visited, "and zero before any walk"
+abbrev pub termVisits : Checked → ℕ → ℕ
+termVisits Good v = v
+termVisits (Bad at) v = 0
+
+unfoldable pub matchTreeVisits : List ℕ → List ℕ → ℕ
+matchTreeVisits table ws = termVisits (check termLimits ws) (visits table (treeOf ws))
+
 -- ---- all that comes back
 pub record MatchTreeOutcome : Type 0 where
   pub said : Answered
   pub rule : ℕ
   pub aside : ℕ
+  pub visits : ℕ
   pub bodies : List ℕ
   pub lengths : List ℕ
 
-abbrev pub matchTreeCame : Answered → (rule aside : ℕ) → (bodies lengths : List ℕ) → MatchTreeOutcome
-matchTreeCame said rule aside bodies lengths = record { said = said; rule = rule; aside = aside; bodies = bodies; lengths = lengths }
+abbrev pub matchTreeCame : Answered → (rule aside visits : ℕ) → (bodies lengths : List ℕ) → MatchTreeOutcome
+matchTreeCame said rule aside visits bodies lengths = record { said = said; rule = rule; aside = aside; visits = visits; bodies = bodies; lengths = lengths }
 
--- what a rule, or none, gives in a room for bodies
-abbrev pub ruleGives : ℕ → Matched → ℕ → MatchTreeOutcome
-ruleGives room m rule = matchTreeCame (answered (matchAnswer room m)) rule (matchAside room m) (matchWords room m) (matchLengths room m)
+-- what a rule, or none, gives in a room for bodies after so many visits
+abbrev pub ruleGives : ℕ → Matched → (rule visits : ℕ) → MatchTreeOutcome
+ruleGives room m rule visits = matchTreeCame (answered (matchAnswer room m)) rule (matchAside room m) visits (matchWords room m) (matchLengths room m)
 
 -- what matching a term by the tree gives in a room for bodies
 unfoldable pub matchTreeGives : (tree term : List ℕ) (room : ℕ) → MatchTreeOutcome
-matchTreeGives tree term room = ruleGives room (matchTree tree term) (matchTreeRule room tree term)
+matchTreeGives tree term room = ruleGives room (matchTree tree term) (matchTreeRule room tree term) (matchTreeVisits tree term)

@@ -1,4 +1,5 @@
 pub mod Walk
+pub mod Visits
 pub mod ByTree
 pub mod Demand
 pub mod told

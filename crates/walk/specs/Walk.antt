@@ -160,6 +160,22 @@ walkFrom fits table at ps = walkBy (suc (length table - at)) fits table at ps
 unfoldable pub walk : (ℕ → LeafNode → Bool) → List ℕ → Row → Walked
 walk fits table t = pick (leb (length table) 16384) (walkFrom (fits (rootCount t)) table 0 (rootPart t)) (DamagedAt 16384)
 
+-- ---- document 02, E7: "the number of nodes the walk visited, the last node included"; nothing that is asked of a Leaf changes it
+abbrev pub visitsAfter : (ℕ → List PartAt → ℕ) → Next → ℕ
+visitsAfter go (Ends w) = 0
+visitsAfter go (Goes to ps) = go to ps
+
+unfoldable pub visitsBy : ℕ → List ℕ → ℕ → List PartAt → ℕ
+visitsBy zero table at ps = 0
+visitsBy (suc n) table at ps = suc (visitsAfter (visitsBy n table) (nextAt (λ leaf. true) table at ps))
+
+unfoldable pub visitsFrom : List ℕ → ℕ → List PartAt → ℕ
+visitsFrom table at ps = visitsBy (suc (length table - at)) table at ps
+
+-- a table longer than 16,384 words is not walked
+unfoldable pub visits : List ℕ → Row → ℕ
+visits table t = pick (leb (length table) 16384) (visitsFrom table 0 (rootPart t)) 0
+
 -- ---- "Where a book is given too, a Leaf whose rule, n or counts don't fit it is damaged", and "with a book any other number than a−b"
 unfoldable pub countsFit : List ℕ → ℕ → List ℕ → Bool
 countsFit left x [] = true

@@ -1,6 +1,6 @@
 // The walk's state, by value: the places uncovered so far, and how the walk stands.
 ghost use mathlib.Core.Path.{_≡_};
-ghost use Prim.Native.Nat.{_<_};
+ghost use Prim.Native.Nat.{_≤_, _<_};
 ghost use mathlib.Core.Bool.{false};
 ghost use lib.ListN.{length, getD};
 ghost use Rattle.walk.specs.told.State.{stoppedAs, movedTo, entryAt, Parted, Holds, EnterTold, WalkTold};
@@ -35,7 +35,7 @@ pub const NODE_WORDS: usize = 3;
 // A Leaf has so many words before its variables.
 pub const LEAF_WORDS: usize = 4;
 
-// For each uncovered place the offset of its part in the term, the abstractions passed, and whether it was entered.
+// For each uncovered place the offset of its part in the term, the abstractions passed, and whether it was entered; and the nodes visited.
 pub struct Walk {
     pub offsets: [u16; PLACES],
     pub depths: [u8; PLACES],
@@ -43,6 +43,7 @@ pub struct Walk {
     pub count: usize,
     pub at: usize,
     pub stands: u8,
+    pub visits: u32,
 }
 
 impl Walk {
@@ -57,6 +58,7 @@ impl Walk {
             count: 1,
             at: 0,
             stands: GOING,
+            visits: 0,
         }
     }
 
@@ -103,9 +105,9 @@ impl Walk {
 }
 
 // Walks the tree over the part that the words begin with, node by node, until it ends. What a node says is decided from what the state
-// lends of itself, so the state is handed on once for a node.
+// lends of itself, so the state is handed on once for a node, and each turn visits one.
 pub fn walk_tree(tree: &[u32], term: &[u32]) -> Walk
-    requires { ⌜ Parted (now term) × (0 < length (now term)) ⌝ }
+    requires { ⌜ Parted (now term) × (0 < length (now term)) × (length (now tree) ≤ 16384) ⌝ }
     ensures { λ r. ⌜ WalkTold (now (tree .entry)) (now (term .entry)) r ⌝ }
 {
     let mut walk = Walk::new();
@@ -121,6 +123,7 @@ pub fn walk_tree(tree: &[u32], term: &[u32]) -> Walk
             count,
             at,
         );
+        walk.visits = walk.visits + 1;
         match decision {
             Decision::Enter(n, to) => walk = walk.enter(term, n, to),
             Decision::Go(to) => walk = walk.test(to),

@@ -5,7 +5,7 @@ ghost use lib.ListN.{length, drop, replicate};
 ghost use lib.Dec.{eqb};
 ghost use Rattle.walk.specs.Walk.{variablesIn, leftCount};
 ghost use Rattle.walk.specs.told.State.{Parted, WalkTold};
-ghost use Rattle.walk.specs.told.WithBook.{bookWalk, countsIn, leafFits, SkipTold, BookWalked};
+ghost use Rattle.walk.specs.told.WithBook.{bookWalk, bookVisits, countsIn, leafFits, SkipTold, BookWalked};
 use crate::leaf::K_AT;
 use crate::leaf::VARIABLE_WORDS;
 use crate::leaf::first_count;
@@ -35,6 +35,18 @@ pub enum BookMatch {
     Rule(u32),
     Damaged(usize),
 }
+
+// What the walk found, and how many nodes it visited.
+pub struct BookWalk {
+    pub found: BookMatch,
+    pub visits: u32,
+}
+
+// The visits where nothing was walked.
+const NO_VISITS: u32 = 0;
+
+// The visits where the root alone settles it: the root and its default.
+const ROOT_VISITS: u32 = 2;
 
 // Whether the n variables of a Leaf from an address on have the counts that they have in a left side.
 fn counts_fit(tree: &[u32], from: usize, n: u32, left: &[u32]) -> bool
@@ -161,22 +173,34 @@ fn match_with(
 }
 
 // Walks the tree over the part that the words begin with, and judges a Leaf by the book: the rule that was found, its bodies in variable
-// order and their lengths.
+// order and their lengths, and the nodes visited.
 pub fn walk_book(
     book: &[u32],
     tree: &[u32],
     term: &[u32],
     bodies: &mut [u32],
     lengths: &mut [u32],
-) -> BookMatch
+) -> BookWalk
     requires { ⌜ Parted (now term) × (0 < length (now term)) × (now bodies ≡ replicate 65536 0) × (now lengths ≡ replicate 16 0) ⌝ }
-    ensures { λ r. ⌜ BookWalked (bookWalk (now (book .entry)) (now (tree .entry)) (now (term .entry))) r (now (bodies .exit)) (now (lengths .exit)) ⌝ }
+    ensures { λ r. ⌜ BookWalked (bookWalk (now (book .entry)) (now (tree .entry)) (now (term .entry))) (r .found) (now (bodies .exit)) (now (lengths .exit))
+        × (r .visits ≡ bookVisits (now (tree .entry)) (now (term .entry))) ⌝ }
 {
     if MOST_TREE < tree.len() {
-        return BookMatch::Damaged(MOST_TREE);
+        return BookWalk {
+            found: BookMatch::Damaged(MOST_TREE),
+            visits: NO_VISITS,
+        };
     }
     if skips(tree, term[0]) {
-        return BookMatch::None;
+        return BookWalk {
+            found: BookMatch::None,
+            visits: ROOT_VISITS,
+        };
     }
-    match_with(walk_tree(tree, term), book, tree, term, bodies, lengths)
+    let walk = walk_tree(tree, term);
+    let visits = walk.visits;
+    BookWalk {
+        found: match_with(walk, book, tree, term, bodies, lengths),
+        visits,
+    }
 }

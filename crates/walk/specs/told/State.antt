@@ -9,7 +9,7 @@ use Rattle.term.specs.Word.{pick}
 use Rattle.term.specs.Row.{Row, words, nesting}
 use Rattle.term.specs.told.Walk.{Stands}
 use Rattle.term.specs.Part.{part, bodyOf}
-use lib.Dec.{leb}
+use lib.Dec.{eqb, leb}
 use Rattle.term.specs.declared.answer.Answer.{Answer}
 use Rattle.term.specs.declared.answer.Answer.the-variants.{Done, Short}
 use Rattle.term.specs.declared.renumber.Passed.{Passed}
@@ -17,7 +17,7 @@ use Rattle.term.specs.declared.renumber.Passed.the-variants as step
 use Rattle.fit.specs.Match.{bodyList, fitted, matchAnswer, matchWords, matchLengths}
 use Rattle.tree.specs.Tree.{LeafVariable, LeafNode}
 use Rattle.tree.specs.Find.{PartAt, rootCount, rootPart, enterPart, bodyOr, leafBody, leafFitting, total}
-use Rattle.walk.specs.Walk.{Walked, NoneFits, RuleFits, DamagedAt, Next, Ends, Goes, unless, goTo, variablesIn, soundVariables, caseNext, switchNode, closedNode, sameNode, leafNode, nextAt, walkFrom, noBook}
+use Rattle.walk.specs.Walk.{Walked, NoneFits, RuleFits, DamagedAt, Next, Ends, Goes, unless, goTo, variablesIn, soundVariables, caseNext, switchNode, closedNode, sameNode, leafNode, nextAt, walkFrom, visitsFrom, noBook}
 use Rattle.walk.specs.ByTree.{walkedMatch, walkedRule, MatchTreeOutcome, ruleGives}
 use Rattle.walk.specs.declared.state.Walk.{Walk}
 use Rattle.walk.specs.declared.by_tree.TreeMatch.{TreeMatch}
@@ -25,17 +25,17 @@ use Rattle.walk.specs.declared.decide.Decision.{Decision}
 use Rattle.walk.specs.declared.decide.Decision.the-variants.{Enter, Go, Stop}
 
 abbrev pub stoppedAs : Walk → ℕ → Walk
-stoppedAs s stands = record { offsets = s .offsets; depths = s .depths; entered = s .entered; count = s .count; at = s .at; stands = stands }
+stoppedAs s stands = record { offsets = s .offsets; depths = s .depths; entered = s .entered; count = s .count; at = s .at; stands = stands; visits = s .visits }
 
 abbrev pub movedTo : Walk → ℕ → Walk
-movedTo s to = record { offsets = s .offsets; depths = s .depths; entered = s .entered; count = s .count; at = to; stands = s .stands }
+movedTo s to = record { offsets = s .offsets; depths = s .depths; entered = s .entered; count = s .count; at = to; stands = s .stands; visits = s .visits }
 
 -- the state that goes on and lends these fields
 abbrev pub seen : List ℕ → List ℕ → List Bool → ℕ → ℕ → Walk
-seen offsets depths entered count at = record { offsets = offsets; depths = depths; entered = entered; count = count; at = at; stands = 0 }
+seen offsets depths entered count at = record { offsets = offsets; depths = depths; entered = entered; count = count; at = at; stands = 0; visits = 0 }
 
 abbrev pub entryAt : Walk
-entryAt = record { offsets = replicate 4096 0; depths = replicate 4096 0; entered = replicate 4096 false; count = 1; at = 0; stands = 0 }
+entryAt = record { offsets = replicate 4096 0; depths = replicate 4096 0; entered = replicate 4096 false; count = 1; at = 0; stands = 0; visits = 0 }
 
 -- the part that begins at an offset of the words
 unfoldable pub partFrom : List ℕ → ℕ → Row
@@ -107,6 +107,7 @@ pub record EnterTold (term : List ℕ) (s : Walk) (n to : ℕ) (r : Walk) : Type
   pub places : placesOf term r ≡ enterPart n (placesOf term s)
   pub there : r .at ≡ to
   pub same : r .stands ≡ s .stands
+  pub visited : r .visits ≡ s .visits
 
 -- ---- what a node says, as it is decided before the state is handed on
 unfoldable pub Decided : List ℕ → List ℕ → ((LeafNode → Bool) → Next) → Walk → Decision → Type 0
@@ -168,20 +169,27 @@ Stood table term walked s (suc (suc (suc n))) = (fits : LeafNode → Bool) → w
 unfoldable pub Standing : List ℕ → List ℕ → ((LeafNode → Bool) → Walked) → Walk → Type 0
 Standing table term walked s = Holds term s × Stood table term walked s (s .stands)
 
+-- the visits of the walk over the part that the words begin with, of which so many were made
+abbrev pub visitsHere : List ℕ → List ℕ → ℕ
+visitsHere table term = visitsFrom table 0 (rootPart (partFrom term 0))
+
+unfoldable pub Visited : List ℕ → List ℕ → Walk → Type 0
+Visited table term s = s .visits + pick (eqb (s .stands) 0) (visitsFrom table (s .at) (placesOf term s)) 0 ≡ visitsHere table term
+
 -- the walk over the part that the words begin with, once it ended
 unfoldable pub WalkTold : List ℕ → List ℕ → Walk → Type 0
-WalkTold table term r = Standing table term (λ fits. walkFrom fits table 0 (rootPart (partFrom term 0))) r × (r .stands ≡ 0 → ⊥)
+WalkTold table term r = Standing table term (λ fits. walkFrom fits table 0 (rootPart (partFrom term 0))) r × (r .stands ≡ 0 → ⊥) × (r .visits ≡ visitsHere table term)
 
 -- the same where no book is given, and what it gives in a room for bodies
 abbrev pub walkedHere : List ℕ → List ℕ → Walked
 walkedHere table term = walkFrom (noBook (rootCount (partFrom term 0))) table 0 (rootPart (partFrom term 0))
 
-unfoldable pub walkedGives : ℕ → Walked → MatchTreeOutcome
-walkedGives room w = ruleGives room (walkedMatch w) (walkedRule room w)
+unfoldable pub walkedGives : ℕ → Walked → ℕ → MatchTreeOutcome
+walkedGives room w visits = ruleGives room (walkedMatch w) (walkedRule room w) visits
 
 -- the answer where no rule is found, or where its bodies have no room
-abbrev pub FindsNone : Answer → TreeMatch → Type 0
-FindsNone a r = (r .answer ≡ a) × (r .rule ≡ 0) × (r .aside ≡ 0)
+abbrev pub FindsNone : Answer → ℕ → TreeMatch → Type 0
+FindsNone a visits r = (r .answer ≡ a) × (r .rule ≡ 0) × (r .aside ≡ 0) × (r .visits ≡ visits)
 
 -- ---- the body of a part in a lent slice, zeros after it; Stuck where there is no room for it
 unfoldable pub PartWritten : ℕ → List ℕ → List ℕ → List ℕ → List ℕ → Passed → Type 0

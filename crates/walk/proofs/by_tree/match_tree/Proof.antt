@@ -22,7 +22,7 @@ returns-2 c =
 walk-tree-requires : tie.Need-walk-tree-requires
 walk-tree-requires c κs =
     let s = c .before .before .before .before .before .before .before .before .before .before .before .before .before .args in
-    let g = sym (c .before .before .before .check-term .ensures) ∙ c .before .enum-told .given .1 in (term-parted (s .tree .now) (s .term .now) 0 g, term-some (s .tree .now) (s .term .now) 0 g)
+    let g = sym (c .before .before .before .check-term .ensures) ∙ c .before .enum-told .given .1 in (term-parted (s .tree .now) (s .term .now) 0 g, term-some (s .tree .now) (s .term .now) 0 g, omega (arith, c .if1 .left))
 
 match-walk-requires : tie.Need-match-walk-requires
 match-walk-requires c κs =

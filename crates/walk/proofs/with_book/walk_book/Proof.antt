@@ -1,8 +1,8 @@
--- `with_book::walk_book` meets its contract: the length of the tree, its root, and then the walk.
+-- `with_book::walk_book` meets its contract: the length of the tree, its root, and then the walk, with the visits of each.
 use borrow.Author.Needs.{needs}
 use native.Mathlib.Omega.{arith}
 use mathlib.Core.Path.{refl}
-use Rattle.walk.proofs.BookEnds.{with-long, with-skip}
+use Rattle.walk.proofs.BookEnds.{with-visits, with-long, with-skip}
 use Rattle.walk.proofs.with_book.walk_book.Statement.{statement}
 use Rattle.walk.proofs.with_book.walk_book.Tie as tie
 
@@ -22,7 +22,7 @@ returns-2 c =
 walk-tree-requires : tie.Need-walk-tree-requires
 walk-tree-requires c κs =
     let start = c .before .before .before .before .before .before .before .before .before in
-    (start .pre .0, start .pre .1)
+    (start .pre .0, start .pre .1, omega (arith, c .before .before .before .if1 .left))
 
 match-with-requires : tie.Need-match-with-requires
 match-with-requires c κs =
@@ -30,7 +30,9 @@ match-with-requires c κs =
     (start .pre .0, start .pre .1, c .before .before .walk-tree .ensures, omega (arith, c .before .before .before .before .before .before .if1 .left), start .pre .2, start .pre .3)
 
 returns-3 : tie.Need-returns-3
-returns-3 c = c .before .before .before .before .match-with .ensures
+returns-3 c =
+    let s = c .before .before .before .before .before .before .before .before .before .before .before .before .before .before .before .before .before .args in
+    (c .before .before .before .before .match-with .ensures, with-visits (s .book .now) (s .tree .now) (s .term .now) (omega (arith, c .before .before .before .before .before .before .before .before .before .before .before .if1 .left)) _ (c .before .before .before .before .before .before .before .walk-tree .ensures))
 
 pub walk-book-spec : {M : Type 1} → statement M
 walk-book-spec =

@@ -11,7 +11,7 @@ use Rattle.walk.proofs.state.Walk.enter.Statement.{statement}
 use Rattle.walk.proofs.state.Walk.enter.Tie as tie
 
 abbrev Inv-loop : tie.InvT-loop
-Inv-loop term n to self₀ offset word inner count₀ from₀ more₀ self count from more = ((target : List PartAt) → Entering term target inner (self₀ .offsets) (self₀ .depths) (self₀ .entered) count₀ from₀ more₀ → Entering term target inner (self .offsets) (self .depths) (self .entered) count from more) × (self .stands ≡ self₀ .stands)
+Inv-loop term n to self₀ offset word inner count₀ from₀ more₀ self count from more = ((target : List PartAt) → Entering term target inner (self₀ .offsets) (self₀ .depths) (self₀ .entered) count₀ from₀ more₀ → Entering term target inner (self .offsets) (self .depths) (self .entered) count from more) × (self .stands ≡ self₀ .stands) × (self .visits ≡ self₀ .visits)
 
 abbrev μ-loop : tie.MeasureT-loop
 μ-loop term n to self₀ offset word inner count₀ from₀ more₀ self count from more = more
@@ -37,7 +37,7 @@ add-from c =
     omega (arith, start .pre .1 .within _ (start .pre .2), start .pre .0 .short)
 
 loop-holds : tie.Need-loop-holds Inv-loop μ-loop
-loop-holds c = (λ target e. e, refl)
+loop-holds c = (λ target e. e, refl, refl)
 
 cast-self : tie.Need-cast-self Inv-loop μ-loop
 cast-self c =
@@ -128,14 +128,14 @@ loop-again c =
     let start = c .before .before .before .before .before .before .before .before .before .before in
     let turn = c .before .before .before in
     let s = start .args in
-    (λ target e. entering-more _ target _ _ _ _ _ _ _ (start .pre .0) (turn .loop .inv .0 target e) (c .before .before .loop-test .taken) _ (c .part-end .ensures ∙ ap partEnd (suffix (turn .loop .from) (s .term .now))), turn .loop .inv .1)
+    (λ target e. entering-more _ target _ _ _ _ _ _ _ (start .pre .0) (turn .loop .inv .0 target e) (c .before .before .loop-test .taken) _ (c .part-end .ensures ∙ ap partEnd (suffix (turn .loop .from) (s .term .now))), turn .loop .inv .1, turn .loop .inv .2)
 
 returns : tie.Need-returns Inv-loop μ-loop
 returns c =
     let start = c .before .before .before .before .before .before .before .before in
     let s = start .args in
     let e = c .before .loop .inv .0 _ (entering-start (s .term .now) (s .t1) (start .pre .0) (start .pre .1) (s .n) (start .pre .2) (start .pre .3) _ (c .before .before .before .inside-word .ensures) _ (c .before .before .count-of .ensures)) in
-    entering-told (s .term .now) (s .t1) (start .pre .0) (start .pre .1) (s .n) (start .pre .2) _ _ _ _ _ _ _ e (c .loop-test .left) (s .to) _ (c .before .loop .inv .1)
+    entering-told (s .term .now) (s .t1) (start .pre .0) (start .pre .1) (s .n) (start .pre .2) _ _ _ _ _ _ _ e (c .loop-test .left) (s .to) _ _ (c .before .loop .inv .1) (c .before .loop .inv .2)
 
 pub enter-spec : {M : Type 1} → statement M
 enter-spec =
