@@ -29,13 +29,13 @@ use Rattle.tree.specs.Compile.{without, heads, caseRows, defaultRows, entering,
 use Rattle.tree.specs.Root.{withoutId, rootSymbols, smallest, countsFrom, headsOf, rootHeads, rootCaseRows, rootCases, rootTree, bookTree}
 use Rattle.tree.specs.Find.{rootCount, partOf, markedPart, childParts, insideOf, enterPart, bodyFor, leafBody}
 use Rattle.tree.specs.Layout.{variableWords, caseCount, long, longCases, caseHeads, layout, layoutCases, treeWords}
-use Rattle.walk.specs.Walk.{goTo, variablesIn, soundVariable, soundVariables, leafNode, isWord, caseOf, switchNode, closedNode, sameNode, nodeAt, nextAt, walkBy, walkFrom, walk, countsFit, bookFits}
+use Rattle.walk.specs.Walk.{goTo, variablesIn, soundVariable, soundVariables, leafNode, isWord, caseOf, switchNode, closedNode, sameNode, nodeAt, nextAt, walkBy, walkFrom, walk, visitsBy, visitsFrom, visits, countsFit, bookFits}
 use Rattle.steps.specs.Right.{shifted, replaced, inBody, write}
 use Rattle.steps.specs.Arguments.{takes, withAside}
-use Rattle.steps.specs.Rewrite.{rewritten, rewriteRoot, rootAnswer, rootWords}
+use Rattle.steps.specs.Rewrite.{rewritten, rewriteRoot, rootAnswer, rootWords, rootVisits}
 use Rattle.steps.specs.Offset.{partAt, spliced}
-use Rattle.steps.specs.Step.{FoundAt, seekRule, lowestOffset, Stepped, Becomes, Refused, wholeWithin, stepFound, step}
-use Rattle.steps.specs.Simplify.{simplifyBy, simplify, simplifyAnswer, simplifyWords, simplifySteps, SimplifyOutcome, simplifyCame, simplifyGives}
+use Rattle.steps.specs.Step.{FoundAt, seekRule, lowestOffset, seekVisits, searchVisits, Stepped, Becomes, Refused, wholeWithin, stepFound, step}
+use Rattle.steps.specs.Simplify.{found, Ended, simplifyBy, simplify, simplifyAnswer, simplifyWords, simplifySteps, simplifyVisits, SimplifyOutcome, simplifyCame, simplifyGives}
 
 -- ---- right sides
 abbrev one-body : List ℕ → ℕ → Row
@@ -59,15 +59,15 @@ right-sides :
     × (wrote (s 9 2 ∷ v 1 ∷ v 2 ∷ []) (m 0 1 ∷ s 7 0 ∷ []) ≡ s 9 2 ∷ s 7 0 ∷ v 1 ∷ [])
     -- a variable in the child of a variable
     × (wrote (s 9 2 ∷ v 1 ∷ v 2 ∷ []) (m 0 1 ∷ m 0 1 ∷ s 7 0 ∷ []) ≡ s 9 2 ∷ s 9 2 ∷ s 7 0 ∷ v 1 ∷ v 1 ∷ [])
-unfolding word kind rank count ident headOf headWith words width ranks nesting read firsts others _⧺_ check scan settle mayStand position listed goodList inside idBody idTerm renumberHead renumber namedHead named closed toBody toTerm sameWords padded idsOf leftShape rootSymbol rightShape counted oneCount allOccur noOther goodLeft goodRight goodRule ruleOf judge checkBook accept nthRule ruleAt leftOf tree childrenOf isHead bodyHere occurrences closeds firstOf sames constraints treeOf leftIn rootArguments aside asideArguments withArguments largest withinLimits limited buildAnswer buildWords countsOf placeNumbered numberIn childrenFrom marked enter sub below subsUnder subAt headAt lowestOpen isIn among sameConstraint has unstruck constraintsLeft wordsOf wordsLeft size without heads caseRows defaultRows entering holding rowsWithout testOf variablesFrom leafOf casesOf nodeOf compiler.step compileBy compile bookRows covers withoutId rootSymbols smallest countsFrom headsOf rootHeads rootCaseRows rootCases rootTree bookTree rootCount partOf markedPart childParts insideOf enterPart bodyFor leafBody variableWords caseCount long longCases caseHeads layout layoutCases treeWords goTo variablesIn soundVariable soundVariables leafNode isWord caseOf switchNode closedNode sameNode nodeAt nextAt walkBy walkFrom walk countsFit bookFits shifted replaced inBody write takes withAside rewritten rewriteRoot partAt spliced seekRule lowestOffset wholeWithin step simplifyBy simplify simplifyAnswer simplifyWords simplifySteps s l v m simplifyGives
+unfolding word kind rank count ident headOf headWith words width ranks nesting read firsts others _⧺_ check scan settle mayStand position listed goodList inside idBody idTerm renumberHead renumber namedHead named closed toBody toTerm sameWords padded idsOf leftShape rootSymbol rightShape counted oneCount allOccur noOther goodLeft goodRight goodRule ruleOf judge checkBook accept nthRule ruleAt leftOf tree childrenOf isHead bodyHere occurrences closeds firstOf sames constraints treeOf leftIn rootArguments aside asideArguments withArguments largest withinLimits limited buildAnswer buildWords countsOf placeNumbered numberIn childrenFrom marked enter sub below subsUnder subAt headAt lowestOpen isIn among sameConstraint has unstruck constraintsLeft wordsOf wordsLeft size without heads caseRows defaultRows entering holding rowsWithout testOf variablesFrom leafOf casesOf nodeOf compiler.step compileBy compile bookRows covers withoutId rootSymbols smallest countsFrom headsOf rootHeads rootCaseRows rootCases rootTree bookTree rootCount partOf markedPart childParts insideOf enterPart bodyFor leafBody variableWords caseCount long longCases caseHeads layout layoutCases treeWords goTo variablesIn soundVariable soundVariables leafNode isWord caseOf switchNode closedNode sameNode nodeAt nextAt walkBy walkFrom walk visitsBy visitsFrom visits countsFit bookFits shifted replaced inBody write takes withAside rewritten rewriteRoot partAt spliced seekRule lowestOffset seekVisits searchVisits wholeWithin step simplifyBy simplify simplifyAnswer simplifyWords simplifySteps simplifyVisits s l v m simplifyGives
 right-sides = (refl, refl, refl, refl, refl, refl, refl, refl)
 
 -- ---- simplifying: the answer, the steps and the words, in a room of six words
 abbrev simplified : ℕ → List ℕ → List ℕ → ℕ → List ℕ → SimplifyOutcome
 simplified room book table budget ws = simplifyGives book table ws budget room
 
-abbrev says : Answer → ℕ → List ℕ → SimplifyOutcome
-says a n ws = simplifyCame (answered a) n ws
+abbrev says : Answer → (steps visits : ℕ) → List ℕ → SimplifyOutcome
+says a n seen ws = simplifyCame (answered a) n seen ws
 
 term-0 : List ℕ
 term-0 = s 2 2 ∷ s 3 1 ∷ l ∷ s 7 0 ∷ s 7 0 ∷ []
@@ -81,42 +81,47 @@ breaks-at-l = 2 ∷ 0 ∷ 2 ∷ l ∷ 11 ∷ s 2 2 ∷ 12 ∷ 10 ∷ 0 ∷ 0 ∷
 
 -- document 01's two terms
 terms-A :
-    (simplified 6 bookA (treeWords bookA) 1000 term-0 ≡ says Done 2 (s 7 0 ∷ 0 ∷ 0 ∷ 0 ∷ 0 ∷ 0 ∷ []))
-    × (simplified 6 bookA (treeWords bookA) 1000 term-1 ≡ says Done 2 (s 4 1 ∷ s 4 1 ∷ s 3 1 ∷ l ∷ v 1 ∷ 0 ∷ []))
-unfolding word kind rank count ident headOf headWith words width ranks nesting read firsts others _⧺_ check scan settle mayStand position listed goodList inside idBody idTerm renumberHead renumber namedHead named closed toBody toTerm sameWords padded idsOf leftShape rootSymbol rightShape counted oneCount allOccur noOther goodLeft goodRight goodRule ruleOf judge checkBook accept nthRule ruleAt leftOf tree childrenOf isHead bodyHere occurrences closeds firstOf sames constraints treeOf leftIn rootArguments aside asideArguments withArguments largest withinLimits limited buildAnswer buildWords countsOf placeNumbered numberIn childrenFrom marked enter sub below subsUnder subAt headAt lowestOpen isIn among sameConstraint has unstruck constraintsLeft wordsOf wordsLeft size without heads caseRows defaultRows entering holding rowsWithout testOf variablesFrom leafOf casesOf nodeOf compiler.step compileBy compile bookRows covers withoutId rootSymbols smallest countsFrom headsOf rootHeads rootCaseRows rootCases rootTree bookTree rootCount partOf markedPart childParts insideOf enterPart bodyFor leafBody variableWords caseCount long longCases caseHeads layout layoutCases treeWords goTo variablesIn soundVariable soundVariables leafNode isWord caseOf switchNode closedNode sameNode nodeAt nextAt walkBy walkFrom walk countsFit bookFits shifted replaced inBody write takes withAside rewritten rewriteRoot partAt spliced seekRule lowestOffset wholeWithin step simplifyBy simplify simplifyAnswer simplifyWords simplifySteps s l v m bookA term-0 term-1 simplifyGives
+    (simplified 6 bookA (treeWords bookA) 1000 term-0 ≡ says Done 2 12 (s 7 0 ∷ 0 ∷ 0 ∷ 0 ∷ 0 ∷ 0 ∷ []))
+    × (simplified 6 bookA (treeWords bookA) 1000 term-1 ≡ says Done 2 25 (s 4 1 ∷ s 4 1 ∷ s 3 1 ∷ l ∷ v 1 ∷ 0 ∷ []))
+unfolding word kind rank count ident headOf headWith words width ranks nesting read firsts others _⧺_ check scan settle mayStand position listed goodList inside idBody idTerm renumberHead renumber namedHead named closed toBody toTerm sameWords padded idsOf leftShape rootSymbol rightShape counted oneCount allOccur noOther goodLeft goodRight goodRule ruleOf judge checkBook accept nthRule ruleAt leftOf tree childrenOf isHead bodyHere occurrences closeds firstOf sames constraints treeOf leftIn rootArguments aside asideArguments withArguments largest withinLimits limited buildAnswer buildWords countsOf placeNumbered numberIn childrenFrom marked enter sub below subsUnder subAt headAt lowestOpen isIn among sameConstraint has unstruck constraintsLeft wordsOf wordsLeft size without heads caseRows defaultRows entering holding rowsWithout testOf variablesFrom leafOf casesOf nodeOf compiler.step compileBy compile bookRows covers withoutId rootSymbols smallest countsFrom headsOf rootHeads rootCaseRows rootCases rootTree bookTree rootCount partOf markedPart childParts insideOf enterPart bodyFor leafBody variableWords caseCount long longCases caseHeads layout layoutCases treeWords goTo variablesIn soundVariable soundVariables leafNode isWord caseOf switchNode closedNode sameNode nodeAt nextAt walkBy walkFrom walk visitsBy visitsFrom visits countsFit bookFits shifted replaced inBody write takes withAside rewritten rewriteRoot partAt spliced seekRule lowestOffset seekVisits searchVisits wholeWithin step simplifyBy simplify simplifyAnswer simplifyWords simplifySteps simplifyVisits s l v m bookA term-0 term-1 simplifyGives
 terms-A = (refl, refl)
+
+-- the trace of the first: by rule 1 after seven nodes, by rule 0 after three, and two nodes at the last look
+trace-A : simplify bookA (treeWords bookA) 1000 term-0 ≡ Ended (found 1 7 ∷ found 0 3 ∷ []) 2 Done (treeOf (s 7 0 ∷ []))
+unfolding word kind rank count ident headOf headWith words width ranks nesting read firsts others _⧺_ check scan settle mayStand position listed goodList inside idBody idTerm renumberHead renumber namedHead named closed toBody toTerm sameWords padded idsOf leftShape rootSymbol rightShape counted oneCount allOccur noOther goodLeft goodRight goodRule ruleOf judge checkBook accept nthRule ruleAt leftOf tree childrenOf isHead bodyHere occurrences closeds firstOf sames constraints treeOf leftIn rootArguments aside asideArguments withArguments largest withinLimits limited buildAnswer buildWords countsOf placeNumbered numberIn childrenFrom marked enter sub below subsUnder subAt headAt lowestOpen isIn among sameConstraint has unstruck constraintsLeft wordsOf wordsLeft size without heads caseRows defaultRows entering holding rowsWithout testOf variablesFrom leafOf casesOf nodeOf compiler.step compileBy compile bookRows covers withoutId rootSymbols smallest countsFrom headsOf rootHeads rootCaseRows rootCases rootTree bookTree rootCount partOf markedPart childParts insideOf enterPart bodyFor leafBody variableWords caseCount long longCases caseHeads layout layoutCases treeWords goTo variablesIn soundVariable soundVariables leafNode isWord caseOf switchNode closedNode sameNode nodeAt nextAt walkBy walkFrom walk visitsBy visitsFrom visits countsFit bookFits shifted replaced inBody write takes withAside rewritten rewriteRoot partAt spliced seekRule lowestOffset seekVisits searchVisits wholeWithin step simplifyBy simplify simplifyAnswer simplifyWords simplifySteps simplifyVisits s l v m bookA term-0 term-1 simplifyGives
+trace-A = refl
 
 -- budgets 0, 1 and exact; room for the result and one word short of it
 budgets-A :
-    (simplified 6 bookA (treeWords bookA) 0 term-0 ≡ says BudgetUsed 0 (s 2 2 ∷ s 3 1 ∷ l ∷ s 7 0 ∷ s 7 0 ∷ 0 ∷ []))
-    × (simplified 6 bookA (treeWords bookA) 1 term-0 ≡ says BudgetUsed 1 (s 2 2 ∷ s 7 0 ∷ s 7 0 ∷ 0 ∷ 0 ∷ 0 ∷ []))
-    × (simplified 6 bookA (treeWords bookA) 2 term-0 ≡ says Done 2 (s 7 0 ∷ 0 ∷ 0 ∷ 0 ∷ 0 ∷ 0 ∷ []))
-    × (simplified 6 bookA (treeWords bookA) 1 term-1 ≡ says BudgetUsed 1 (s 4 1 ∷ s 3 1 ∷ l ∷ s 4 1 ∷ v 1 ∷ 0 ∷ []))
-    × (simplified 6 bookA (treeWords bookA) 0 (v 3 ∷ []) ≡ says Done 0 (v 3 ∷ 0 ∷ 0 ∷ 0 ∷ 0 ∷ 0 ∷ []))
-    × (simplified 5 bookA (treeWords bookA) 2 term-1 ≡ says Done 2 (s 4 1 ∷ s 4 1 ∷ s 3 1 ∷ l ∷ v 1 ∷ []))
-    × (simplified 4 bookA (treeWords bookA) 2 term-1 ≡ says Short 2 (0 ∷ 0 ∷ 0 ∷ 0 ∷ []))
-unfolding word kind rank count ident headOf headWith words width ranks nesting read firsts others _⧺_ check scan settle mayStand position listed goodList inside idBody idTerm renumberHead renumber namedHead named closed toBody toTerm sameWords padded idsOf leftShape rootSymbol rightShape counted oneCount allOccur noOther goodLeft goodRight goodRule ruleOf judge checkBook accept nthRule ruleAt leftOf tree childrenOf isHead bodyHere occurrences closeds firstOf sames constraints treeOf leftIn rootArguments aside asideArguments withArguments largest withinLimits limited buildAnswer buildWords countsOf placeNumbered numberIn childrenFrom marked enter sub below subsUnder subAt headAt lowestOpen isIn among sameConstraint has unstruck constraintsLeft wordsOf wordsLeft size without heads caseRows defaultRows entering holding rowsWithout testOf variablesFrom leafOf casesOf nodeOf compiler.step compileBy compile bookRows covers withoutId rootSymbols smallest countsFrom headsOf rootHeads rootCaseRows rootCases rootTree bookTree rootCount partOf markedPart childParts insideOf enterPart bodyFor leafBody variableWords caseCount long longCases caseHeads layout layoutCases treeWords goTo variablesIn soundVariable soundVariables leafNode isWord caseOf switchNode closedNode sameNode nodeAt nextAt walkBy walkFrom walk countsFit bookFits shifted replaced inBody write takes withAside rewritten rewriteRoot partAt spliced seekRule lowestOffset wholeWithin step simplifyBy simplify simplifyAnswer simplifyWords simplifySteps s l v m bookA term-0 term-1 simplifyGives
+    (simplified 6 bookA (treeWords bookA) 0 term-0 ≡ says BudgetUsed 0 7 (s 2 2 ∷ s 3 1 ∷ l ∷ s 7 0 ∷ s 7 0 ∷ 0 ∷ []))
+    × (simplified 6 bookA (treeWords bookA) 1 term-0 ≡ says BudgetUsed 1 10 (s 2 2 ∷ s 7 0 ∷ s 7 0 ∷ 0 ∷ 0 ∷ 0 ∷ []))
+    × (simplified 6 bookA (treeWords bookA) 2 term-0 ≡ says Done 2 12 (s 7 0 ∷ 0 ∷ 0 ∷ 0 ∷ 0 ∷ 0 ∷ []))
+    × (simplified 6 bookA (treeWords bookA) 1 term-1 ≡ says BudgetUsed 1 12 (s 4 1 ∷ s 3 1 ∷ l ∷ s 4 1 ∷ v 1 ∷ 0 ∷ []))
+    × (simplified 6 bookA (treeWords bookA) 0 (v 3 ∷ []) ≡ says Done 0 2 (v 3 ∷ 0 ∷ 0 ∷ 0 ∷ 0 ∷ 0 ∷ []))
+    × (simplified 5 bookA (treeWords bookA) 2 term-1 ≡ says Done 2 25 (s 4 1 ∷ s 4 1 ∷ s 3 1 ∷ l ∷ v 1 ∷ []))
+    × (simplified 4 bookA (treeWords bookA) 2 term-1 ≡ says Short 2 25 (0 ∷ 0 ∷ 0 ∷ 0 ∷ []))
+unfolding word kind rank count ident headOf headWith words width ranks nesting read firsts others _⧺_ check scan settle mayStand position listed goodList inside idBody idTerm renumberHead renumber namedHead named closed toBody toTerm sameWords padded idsOf leftShape rootSymbol rightShape counted oneCount allOccur noOther goodLeft goodRight goodRule ruleOf judge checkBook accept nthRule ruleAt leftOf tree childrenOf isHead bodyHere occurrences closeds firstOf sames constraints treeOf leftIn rootArguments aside asideArguments withArguments largest withinLimits limited buildAnswer buildWords countsOf placeNumbered numberIn childrenFrom marked enter sub below subsUnder subAt headAt lowestOpen isIn among sameConstraint has unstruck constraintsLeft wordsOf wordsLeft size without heads caseRows defaultRows entering holding rowsWithout testOf variablesFrom leafOf casesOf nodeOf compiler.step compileBy compile bookRows covers withoutId rootSymbols smallest countsFrom headsOf rootHeads rootCaseRows rootCases rootTree bookTree rootCount partOf markedPart childParts insideOf enterPart bodyFor leafBody variableWords caseCount long longCases caseHeads layout layoutCases treeWords goTo variablesIn soundVariable soundVariables leafNode isWord caseOf switchNode closedNode sameNode nodeAt nextAt walkBy walkFrom walk visitsBy visitsFrom visits countsFit bookFits shifted replaced inBody write takes withAside rewritten rewriteRoot partAt spliced seekRule lowestOffset seekVisits searchVisits wholeWithin step simplifyBy simplify simplifyAnswer simplifyWords simplifySteps simplifyVisits s l v m bookA term-0 term-1 simplifyGives
 budgets-A = (refl, refl, refl, refl, refl, refl, refl)
 
 -- the lowest offset: two parts fit rule 0, and the one that begins first is rewritten, not the one inside it
 lowest-A :
-    (simplified 7 bookA (treeWords bookA) 1 (s 2 2 ∷ s 2 2 ∷ v 1 ∷ v 1 ∷ s 2 2 ∷ v 1 ∷ v 1 ∷ []) ≡ says BudgetUsed 1 (s 2 2 ∷ v 1 ∷ v 1 ∷ 0 ∷ 0 ∷ 0 ∷ 0 ∷ []))
+    (simplified 7 bookA (treeWords bookA) 1 (s 2 2 ∷ s 2 2 ∷ v 1 ∷ v 1 ∷ s 2 2 ∷ v 1 ∷ v 1 ∷ []) ≡ says BudgetUsed 1 6 (s 2 2 ∷ v 1 ∷ v 1 ∷ 0 ∷ 0 ∷ 0 ∷ 0 ∷ []))
     -- and of two side by side the left one
-    × (simplified 7 bookA (treeWords bookA) 1 (s 5 2 ∷ s 2 2 ∷ v 1 ∷ v 1 ∷ s 2 2 ∷ v 2 ∷ v 2 ∷ []) ≡ says BudgetUsed 1 (s 5 2 ∷ v 1 ∷ s 2 2 ∷ v 2 ∷ v 2 ∷ 0 ∷ 0 ∷ []))
-unfolding word kind rank count ident headOf headWith words width ranks nesting read firsts others _⧺_ check scan settle mayStand position listed goodList inside idBody idTerm renumberHead renumber namedHead named closed toBody toTerm sameWords padded idsOf leftShape rootSymbol rightShape counted oneCount allOccur noOther goodLeft goodRight goodRule ruleOf judge checkBook accept nthRule ruleAt leftOf tree childrenOf isHead bodyHere occurrences closeds firstOf sames constraints treeOf leftIn rootArguments aside asideArguments withArguments largest withinLimits limited buildAnswer buildWords countsOf placeNumbered numberIn childrenFrom marked enter sub below subsUnder subAt headAt lowestOpen isIn among sameConstraint has unstruck constraintsLeft wordsOf wordsLeft size without heads caseRows defaultRows entering holding rowsWithout testOf variablesFrom leafOf casesOf nodeOf compiler.step compileBy compile bookRows covers withoutId rootSymbols smallest countsFrom headsOf rootHeads rootCaseRows rootCases rootTree bookTree rootCount partOf markedPart childParts insideOf enterPart bodyFor leafBody variableWords caseCount long longCases caseHeads layout layoutCases treeWords goTo variablesIn soundVariable soundVariables leafNode isWord caseOf switchNode closedNode sameNode nodeAt nextAt walkBy walkFrom walk countsFit bookFits shifted replaced inBody write takes withAside rewritten rewriteRoot partAt spliced seekRule lowestOffset wholeWithin step simplifyBy simplify simplifyAnswer simplifyWords simplifySteps s l v m bookA simplifyGives
+    × (simplified 7 bookA (treeWords bookA) 1 (s 5 2 ∷ s 2 2 ∷ v 1 ∷ v 1 ∷ s 2 2 ∷ v 2 ∷ v 2 ∷ []) ≡ says BudgetUsed 1 12 (s 5 2 ∷ v 1 ∷ s 2 2 ∷ v 2 ∷ v 2 ∷ 0 ∷ 0 ∷ []))
+unfolding word kind rank count ident headOf headWith words width ranks nesting read firsts others _⧺_ check scan settle mayStand position listed goodList inside idBody idTerm renumberHead renumber namedHead named closed toBody toTerm sameWords padded idsOf leftShape rootSymbol rightShape counted oneCount allOccur noOther goodLeft goodRight goodRule ruleOf judge checkBook accept nthRule ruleAt leftOf tree childrenOf isHead bodyHere occurrences closeds firstOf sames constraints treeOf leftIn rootArguments aside asideArguments withArguments largest withinLimits limited buildAnswer buildWords countsOf placeNumbered numberIn childrenFrom marked enter sub below subsUnder subAt headAt lowestOpen isIn among sameConstraint has unstruck constraintsLeft wordsOf wordsLeft size without heads caseRows defaultRows entering holding rowsWithout testOf variablesFrom leafOf casesOf nodeOf compiler.step compileBy compile bookRows covers withoutId rootSymbols smallest countsFrom headsOf rootHeads rootCaseRows rootCases rootTree bookTree rootCount partOf markedPart childParts insideOf enterPart bodyFor leafBody variableWords caseCount long longCases caseHeads layout layoutCases treeWords goTo variablesIn soundVariable soundVariables leafNode isWord caseOf switchNode closedNode sameNode nodeAt nextAt walkBy walkFrom walk visitsBy visitsFrom visits countsFit bookFits shifted replaced inBody write takes withAside rewritten rewriteRoot partAt spliced seekRule lowestOffset seekVisits searchVisits wholeWithin step simplifyBy simplify simplifyAnswer simplifyWords simplifySteps simplifyVisits s l v m bookA simplifyGives
 lowest-A = (refl, refl)
 
 -- refusals: the book before the term, the term before the tree; steps completed
 refusals :
-    (simplified 2 (64 ∷ []) [] 9 [] ≡ says (BadBook 0) 0 (0 ∷ 0 ∷ []))
-    × (simplified 2 bookA [] 9 [] ≡ says (BadTerm 0) 0 (0 ∷ 0 ∷ []))
-    × (simplified 2 bookA [] 9 (s 7 0 ∷ []) ≡ says (Damaged 0) 0 (0 ∷ 0 ∷ []))
+    (simplified 2 (64 ∷ []) [] 9 [] ≡ says (BadBook 0) 0 0 (0 ∷ 0 ∷ []))
+    × (simplified 2 bookA [] 9 [] ≡ says (BadTerm 0) 0 0 (0 ∷ 0 ∷ []))
+    × (simplified 2 bookA [] 9 (s 7 0 ∷ []) ≡ says (Damaged 0) 0 1 (0 ∷ 0 ∷ []))
     -- with no budget too
-    × (simplified 2 bookA [] 0 (s 7 0 ∷ []) ≡ says (Damaged 0) 0 (0 ∷ 0 ∷ []))
+    × (simplified 2 bookA [] 0 (s 7 0 ∷ []) ≡ says (Damaged 0) 0 1 (0 ∷ 0 ∷ []))
     -- a tree that is damaged where it meets an abstraction: before a later offset is looked at, and after a step that is completed
-    × (simplified 2 bookA breaks-at-l 9 (s 5 2 ∷ l ∷ v 1 ∷ s 2 2 ∷ v 1 ∷ v 1 ∷ []) ≡ says (Damaged 11) 0 (0 ∷ 0 ∷ []))
-    × (simplified 2 bookA breaks-at-l 9 (s 5 2 ∷ s 2 2 ∷ v 1 ∷ v 1 ∷ l ∷ v 1 ∷ []) ≡ says (Damaged 11) 1 (0 ∷ 0 ∷ []))
-unfolding word kind rank count ident headOf headWith words width ranks nesting read firsts others _⧺_ check scan settle mayStand position listed goodList inside idBody idTerm renumberHead renumber namedHead named closed toBody toTerm sameWords padded idsOf leftShape rootSymbol rightShape counted oneCount allOccur noOther goodLeft goodRight goodRule ruleOf judge checkBook accept nthRule ruleAt leftOf tree childrenOf isHead bodyHere occurrences closeds firstOf sames constraints treeOf leftIn rootArguments aside asideArguments withArguments largest withinLimits limited buildAnswer buildWords countsOf placeNumbered numberIn childrenFrom marked enter sub below subsUnder subAt headAt lowestOpen isIn among sameConstraint has unstruck constraintsLeft wordsOf wordsLeft size without heads caseRows defaultRows entering holding rowsWithout testOf variablesFrom leafOf casesOf nodeOf compiler.step compileBy compile bookRows covers withoutId rootSymbols smallest countsFrom headsOf rootHeads rootCaseRows rootCases rootTree bookTree rootCount partOf markedPart childParts insideOf enterPart bodyFor leafBody variableWords caseCount long longCases caseHeads layout layoutCases treeWords goTo variablesIn soundVariable soundVariables leafNode isWord caseOf switchNode closedNode sameNode nodeAt nextAt walkBy walkFrom walk countsFit bookFits shifted replaced inBody write takes withAside rewritten rewriteRoot partAt spliced seekRule lowestOffset wholeWithin step simplifyBy simplify simplifyAnswer simplifyWords simplifySteps s l v m bookA breaks-at-l simplifyGives
+    × (simplified 2 bookA breaks-at-l 9 (s 5 2 ∷ l ∷ v 1 ∷ s 2 2 ∷ v 1 ∷ v 1 ∷ []) ≡ says (Damaged 11) 0 4 (0 ∷ 0 ∷ []))
+    × (simplified 2 bookA breaks-at-l 9 (s 5 2 ∷ s 2 2 ∷ v 1 ∷ v 1 ∷ l ∷ v 1 ∷ []) ≡ says (Damaged 11) 1 10 (0 ∷ 0 ∷ []))
+unfolding word kind rank count ident headOf headWith words width ranks nesting read firsts others _⧺_ check scan settle mayStand position listed goodList inside idBody idTerm renumberHead renumber namedHead named closed toBody toTerm sameWords padded idsOf leftShape rootSymbol rightShape counted oneCount allOccur noOther goodLeft goodRight goodRule ruleOf judge checkBook accept nthRule ruleAt leftOf tree childrenOf isHead bodyHere occurrences closeds firstOf sames constraints treeOf leftIn rootArguments aside asideArguments withArguments largest withinLimits limited buildAnswer buildWords countsOf placeNumbered numberIn childrenFrom marked enter sub below subsUnder subAt headAt lowestOpen isIn among sameConstraint has unstruck constraintsLeft wordsOf wordsLeft size without heads caseRows defaultRows entering holding rowsWithout testOf variablesFrom leafOf casesOf nodeOf compiler.step compileBy compile bookRows covers withoutId rootSymbols smallest countsFrom headsOf rootHeads rootCaseRows rootCases rootTree bookTree rootCount partOf markedPart childParts insideOf enterPart bodyFor leafBody variableWords caseCount long longCases caseHeads layout layoutCases treeWords goTo variablesIn soundVariable soundVariables leafNode isWord caseOf switchNode closedNode sameNode nodeAt nextAt walkBy walkFrom walk visitsBy visitsFrom visits countsFit bookFits shifted replaced inBody write takes withAside rewritten rewriteRoot partAt spliced seekRule lowestOffset seekVisits searchVisits wholeWithin step simplifyBy simplify simplifyAnswer simplifyWords simplifySteps simplifyVisits s l v m bookA breaks-at-l simplifyGives
 refusals = (refl, refl, refl, refl, refl, refl)
 
 -- the limits are those of the whole term: an id that passes 65,535 under an abstraction of the right side
@@ -124,10 +129,10 @@ bookD : List ℕ
 bookD = 1 ∷ 1 ∷ 2 ∷ 2 ∷ s 1 1 ∷ m 0 0 ∷ l ∷ m 0 0 ∷ []
 
 limits-D :
-    (simplified 3 bookD (treeWords bookD) 1 (s 1 1 ∷ v 65534 ∷ []) ≡ says Done 1 (l ∷ v 65535 ∷ 0 ∷ []))
-    × (simplified 3 bookD (treeWords bookD) 1 (s 1 1 ∷ v 65535 ∷ []) ≡ says Over 0 (0 ∷ 0 ∷ 0 ∷ []))
-    × (simplified 3 bookD (treeWords bookD) 0 (s 1 1 ∷ v 65535 ∷ []) ≡ says BudgetUsed 0 (s 1 1 ∷ v 65535 ∷ 0 ∷ []))
-unfolding word kind rank count ident headOf headWith words width ranks nesting read firsts others _⧺_ check scan settle mayStand position listed goodList inside idBody idTerm renumberHead renumber namedHead named closed toBody toTerm sameWords padded idsOf leftShape rootSymbol rightShape counted oneCount allOccur noOther goodLeft goodRight goodRule ruleOf judge checkBook accept nthRule ruleAt leftOf tree childrenOf isHead bodyHere occurrences closeds firstOf sames constraints treeOf leftIn rootArguments aside asideArguments withArguments largest withinLimits limited buildAnswer buildWords countsOf placeNumbered numberIn childrenFrom marked enter sub below subsUnder subAt headAt lowestOpen isIn among sameConstraint has unstruck constraintsLeft wordsOf wordsLeft size without heads caseRows defaultRows entering holding rowsWithout testOf variablesFrom leafOf casesOf nodeOf compiler.step compileBy compile bookRows covers withoutId rootSymbols smallest countsFrom headsOf rootHeads rootCaseRows rootCases rootTree bookTree rootCount partOf markedPart childParts insideOf enterPart bodyFor leafBody variableWords caseCount long longCases caseHeads layout layoutCases treeWords goTo variablesIn soundVariable soundVariables leafNode isWord caseOf switchNode closedNode sameNode nodeAt nextAt walkBy walkFrom walk countsFit bookFits shifted replaced inBody write takes withAside rewritten rewriteRoot partAt spliced seekRule lowestOffset wholeWithin step simplifyBy simplify simplifyAnswer simplifyWords simplifySteps s l v m bookD simplifyGives
+    (simplified 3 bookD (treeWords bookD) 1 (s 1 1 ∷ v 65534 ∷ []) ≡ says Done 1 6 (l ∷ v 65535 ∷ 0 ∷ []))
+    × (simplified 3 bookD (treeWords bookD) 1 (s 1 1 ∷ v 65535 ∷ []) ≡ says Over 0 2 (0 ∷ 0 ∷ 0 ∷ []))
+    × (simplified 3 bookD (treeWords bookD) 0 (s 1 1 ∷ v 65535 ∷ []) ≡ says BudgetUsed 0 2 (s 1 1 ∷ v 65535 ∷ 0 ∷ []))
+unfolding word kind rank count ident headOf headWith words width ranks nesting read firsts others _⧺_ check scan settle mayStand position listed goodList inside idBody idTerm renumberHead renumber namedHead named closed toBody toTerm sameWords padded idsOf leftShape rootSymbol rightShape counted oneCount allOccur noOther goodLeft goodRight goodRule ruleOf judge checkBook accept nthRule ruleAt leftOf tree childrenOf isHead bodyHere occurrences closeds firstOf sames constraints treeOf leftIn rootArguments aside asideArguments withArguments largest withinLimits limited buildAnswer buildWords countsOf placeNumbered numberIn childrenFrom marked enter sub below subsUnder subAt headAt lowestOpen isIn among sameConstraint has unstruck constraintsLeft wordsOf wordsLeft size without heads caseRows defaultRows entering holding rowsWithout testOf variablesFrom leafOf casesOf nodeOf compiler.step compileBy compile bookRows covers withoutId rootSymbols smallest countsFrom headsOf rootHeads rootCaseRows rootCases rootTree bookTree rootCount partOf markedPart childParts insideOf enterPart bodyFor leafBody variableWords caseCount long longCases caseHeads layout layoutCases treeWords goTo variablesIn soundVariable soundVariables leafNode isWord caseOf switchNode closedNode sameNode nodeAt nextAt walkBy walkFrom walk visitsBy visitsFrom visits countsFit bookFits shifted replaced inBody write takes withAside rewritten rewriteRoot partAt spliced seekRule lowestOffset seekVisits searchVisits wholeWithin step simplifyBy simplify simplifyAnswer simplifyWords simplifySteps simplifyVisits s l v m bookD simplifyGives
 limits-D = (refl, refl, refl)
 
 -- and a nesting over 64 of the whole, not of what is written
@@ -139,9 +144,9 @@ under zero ws = ws
 under (suc n) ws = l ∷ under n ws
 
 limits-E :
-    (simplified 64 bookE (treeWords bookE) 1 (under 61 (s 1 1 ∷ v 1 ∷ [])) ≡ says Done 1 (under 63 (v 3 ∷ [])))
-    × (simplified 1 bookE (treeWords bookE) 1 (under 62 (s 1 1 ∷ v 1 ∷ [])) ≡ says Over 0 (0 ∷ []))
-unfolding word kind rank count ident headOf headWith words width ranks nesting read firsts others _⧺_ check scan settle mayStand position listed goodList inside idBody idTerm renumberHead renumber namedHead named closed toBody toTerm sameWords padded idsOf leftShape rootSymbol rightShape counted oneCount allOccur noOther goodLeft goodRight goodRule ruleOf judge checkBook accept nthRule ruleAt leftOf tree childrenOf isHead bodyHere occurrences closeds firstOf sames constraints treeOf leftIn rootArguments aside asideArguments withArguments largest withinLimits limited buildAnswer buildWords countsOf placeNumbered numberIn childrenFrom marked enter sub below subsUnder subAt headAt lowestOpen isIn among sameConstraint has unstruck constraintsLeft wordsOf wordsLeft size without heads caseRows defaultRows entering holding rowsWithout testOf variablesFrom leafOf casesOf nodeOf compiler.step compileBy compile bookRows covers withoutId rootSymbols smallest countsFrom headsOf rootHeads rootCaseRows rootCases rootTree bookTree rootCount partOf markedPart childParts insideOf enterPart bodyFor leafBody variableWords caseCount long longCases caseHeads layout layoutCases treeWords goTo variablesIn soundVariable soundVariables leafNode isWord caseOf switchNode closedNode sameNode nodeAt nextAt walkBy walkFrom walk countsFit bookFits shifted replaced inBody write takes withAside rewritten rewriteRoot partAt spliced seekRule lowestOffset wholeWithin step simplifyBy simplify simplifyAnswer simplifyWords simplifySteps s l v m bookE under simplifyGives
+    (simplified 64 bookE (treeWords bookE) 1 (under 61 (s 1 1 ∷ v 1 ∷ [])) ≡ says Done 1 252 (under 63 (v 3 ∷ [])))
+    × (simplified 1 bookE (treeWords bookE) 1 (under 62 (s 1 1 ∷ v 1 ∷ [])) ≡ says Over 0 126 (0 ∷ []))
+unfolding word kind rank count ident headOf headWith words width ranks nesting read firsts others _⧺_ check scan settle mayStand position listed goodList inside idBody idTerm renumberHead renumber namedHead named closed toBody toTerm sameWords padded idsOf leftShape rootSymbol rightShape counted oneCount allOccur noOther goodLeft goodRight goodRule ruleOf judge checkBook accept nthRule ruleAt leftOf tree childrenOf isHead bodyHere occurrences closeds firstOf sames constraints treeOf leftIn rootArguments aside asideArguments withArguments largest withinLimits limited buildAnswer buildWords countsOf placeNumbered numberIn childrenFrom marked enter sub below subsUnder subAt headAt lowestOpen isIn among sameConstraint has unstruck constraintsLeft wordsOf wordsLeft size without heads caseRows defaultRows entering holding rowsWithout testOf variablesFrom leafOf casesOf nodeOf compiler.step compileBy compile bookRows covers withoutId rootSymbols smallest countsFrom headsOf rootHeads rootCaseRows rootCases rootTree bookTree rootCount partOf markedPart childParts insideOf enterPart bodyFor leafBody variableWords caseCount long longCases caseHeads layout layoutCases treeWords goTo variablesIn soundVariable soundVariables leafNode isWord caseOf switchNode closedNode sameNode nodeAt nextAt walkBy walkFrom walk visitsBy visitsFrom visits countsFit bookFits shifted replaced inBody write takes withAside rewritten rewriteRoot partAt spliced seekRule lowestOffset seekVisits searchVisits wholeWithin step simplifyBy simplify simplifyAnswer simplifyWords simplifySteps simplifyVisits s l v m bookE under simplifyGives
 limits-E = (refl, refl)
 
 -- ---- the arguments set aside, those after the first b of a term, at the end of what is written
@@ -162,7 +167,7 @@ asides :
     -- with nothing set aside any root will do
     × (with-aside (v 1 ∷ []) 2 (s 2 2 ∷ v 1 ∷ v 2 ∷ []) ≡ some (v 1 ∷ []))
     × (with-aside (l ∷ s 7 0 ∷ []) 2 (s 2 1 ∷ v 1 ∷ []) ≡ some (l ∷ s 7 0 ∷ []))
-unfolding word kind rank count ident headOf headWith words width ranks nesting read firsts others _⧺_ check scan settle mayStand position listed goodList inside idBody idTerm renumberHead renumber namedHead named closed toBody toTerm sameWords padded idsOf leftShape rootSymbol rightShape counted oneCount allOccur noOther goodLeft goodRight goodRule ruleOf judge checkBook accept nthRule ruleAt leftOf tree childrenOf isHead bodyHere occurrences closeds firstOf sames constraints treeOf leftIn rootArguments aside asideArguments withArguments largest withinLimits limited buildAnswer buildWords countsOf placeNumbered numberIn childrenFrom marked enter sub below subsUnder subAt headAt lowestOpen isIn among sameConstraint has unstruck constraintsLeft wordsOf wordsLeft size without heads caseRows defaultRows entering holding rowsWithout testOf variablesFrom leafOf casesOf nodeOf compiler.step compileBy compile bookRows covers withoutId rootSymbols smallest countsFrom headsOf rootHeads rootCaseRows rootCases rootTree bookTree rootCount partOf markedPart childParts insideOf enterPart bodyFor leafBody variableWords caseCount long longCases caseHeads layout layoutCases treeWords goTo variablesIn soundVariable soundVariables leafNode isWord caseOf switchNode closedNode sameNode nodeAt nextAt walkBy walkFrom walk countsFit bookFits shifted replaced inBody write takes withAside rewritten rewriteRoot partAt spliced seekRule lowestOffset wholeWithin step simplifyBy simplify simplifyAnswer simplifyWords simplifySteps s l v m simplifyGives
+unfolding word kind rank count ident headOf headWith words width ranks nesting read firsts others _⧺_ check scan settle mayStand position listed goodList inside idBody idTerm renumberHead renumber namedHead named closed toBody toTerm sameWords padded idsOf leftShape rootSymbol rightShape counted oneCount allOccur noOther goodLeft goodRight goodRule ruleOf judge checkBook accept nthRule ruleAt leftOf tree childrenOf isHead bodyHere occurrences closeds firstOf sames constraints treeOf leftIn rootArguments aside asideArguments withArguments largest withinLimits limited buildAnswer buildWords countsOf placeNumbered numberIn childrenFrom marked enter sub below subsUnder subAt headAt lowestOpen isIn among sameConstraint has unstruck constraintsLeft wordsOf wordsLeft size without heads caseRows defaultRows entering holding rowsWithout testOf variablesFrom leafOf casesOf nodeOf compiler.step compileBy compile bookRows covers withoutId rootSymbols smallest countsFrom headsOf rootHeads rootCaseRows rootCases rootTree bookTree rootCount partOf markedPart childParts insideOf enterPart bodyFor leafBody variableWords caseCount long longCases caseHeads layout layoutCases treeWords goTo variablesIn soundVariable soundVariables leafNode isWord caseOf switchNode closedNode sameNode nodeAt nextAt walkBy walkFrom walk visitsBy visitsFrom visits countsFit bookFits shifted replaced inBody write takes withAside rewritten rewriteRoot partAt spliced seekRule lowestOffset seekVisits searchVisits wholeWithin step simplifyBy simplify simplifyAnswer simplifyWords simplifySteps simplifyVisits s l v m simplifyGives
 asides = (refl, refl, refl, refl, refl, refl, refl, refl, refl)
 
 -- book D's rule, where a walk found it at the root of a term with more arguments
@@ -174,11 +179,11 @@ aside-first :
     (stepped (v 65535 ∷ []) (s 1 2 ∷ v 65535 ∷ v 1 ∷ []) ≡ Refused (CannotTake 1))
     × (stepped (v 1 ∷ []) (s 1 3 ∷ v 1 ∷ v 1 ∷ v 1 ∷ []) ≡ Refused (CannotTake 2))
     × (stepped (v 65535 ∷ []) (s 1 1 ∷ v 65535 ∷ []) ≡ Refused Over)
-    × (stepped (v 1 ∷ []) (s 1 1 ∷ v 1 ∷ []) ≡ Becomes (treeOf (l ∷ v 2 ∷ [])))
+    × (stepped (v 1 ∷ []) (s 1 1 ∷ v 1 ∷ []) ≡ Becomes 0 (treeOf (l ∷ v 2 ∷ [])))
     -- the children of a root of another kind are counted as arguments are
-    × (stepped (v 1 ∷ []) (l ∷ v 1 ∷ []) ≡ Becomes (treeOf (l ∷ v 2 ∷ [])))
-    × (stepped (v 1 ∷ []) (v 1 ∷ []) ≡ Becomes (treeOf (l ∷ v 2 ∷ [])))
-unfolding word kind rank count ident headOf headWith words width ranks nesting read firsts others _⧺_ check scan settle mayStand position listed goodList inside idBody idTerm renumberHead renumber namedHead named closed toBody toTerm sameWords padded idsOf leftShape rootSymbol rightShape counted oneCount allOccur noOther goodLeft goodRight goodRule ruleOf judge checkBook accept nthRule ruleAt leftOf tree childrenOf isHead bodyHere occurrences closeds firstOf sames constraints treeOf leftIn rootArguments aside asideArguments withArguments largest withinLimits limited buildAnswer buildWords countsOf placeNumbered numberIn childrenFrom marked enter sub below subsUnder subAt headAt lowestOpen isIn among sameConstraint has unstruck constraintsLeft wordsOf wordsLeft size without heads caseRows defaultRows entering holding rowsWithout testOf variablesFrom leafOf casesOf nodeOf compiler.step compileBy compile bookRows covers withoutId rootSymbols smallest countsFrom headsOf rootHeads rootCaseRows rootCases rootTree bookTree rootCount partOf markedPart childParts insideOf enterPart bodyFor leafBody variableWords caseCount long longCases caseHeads layout layoutCases treeWords goTo variablesIn soundVariable soundVariables leafNode isWord caseOf switchNode closedNode sameNode nodeAt nextAt walkBy walkFrom walk countsFit bookFits shifted replaced inBody write takes withAside rewritten rewriteRoot partAt spliced seekRule lowestOffset wholeWithin step simplifyBy simplify simplifyAnswer simplifyWords simplifySteps s l v m simplifyGives bookD
+    × (stepped (v 1 ∷ []) (l ∷ v 1 ∷ []) ≡ Becomes 0 (treeOf (l ∷ v 2 ∷ [])))
+    × (stepped (v 1 ∷ []) (v 1 ∷ []) ≡ Becomes 0 (treeOf (l ∷ v 2 ∷ [])))
+unfolding word kind rank count ident headOf headWith words width ranks nesting read firsts others _⧺_ check scan settle mayStand position listed goodList inside idBody idTerm renumberHead renumber namedHead named closed toBody toTerm sameWords padded idsOf leftShape rootSymbol rightShape counted oneCount allOccur noOther goodLeft goodRight goodRule ruleOf judge checkBook accept nthRule ruleAt leftOf tree childrenOf isHead bodyHere occurrences closeds firstOf sames constraints treeOf leftIn rootArguments aside asideArguments withArguments largest withinLimits limited buildAnswer buildWords countsOf placeNumbered numberIn childrenFrom marked enter sub below subsUnder subAt headAt lowestOpen isIn among sameConstraint has unstruck constraintsLeft wordsOf wordsLeft size without heads caseRows defaultRows entering holding rowsWithout testOf variablesFrom leafOf casesOf nodeOf compiler.step compileBy compile bookRows covers withoutId rootSymbols smallest countsFrom headsOf rootHeads rootCaseRows rootCases rootTree bookTree rootCount partOf markedPart childParts insideOf enterPart bodyFor leafBody variableWords caseCount long longCases caseHeads layout layoutCases treeWords goTo variablesIn soundVariable soundVariables leafNode isWord caseOf switchNode closedNode sameNode nodeAt nextAt walkBy walkFrom walk visitsBy visitsFrom visits countsFit bookFits shifted replaced inBody write takes withAside rewritten rewriteRoot partAt spliced seekRule lowestOffset seekVisits searchVisits wholeWithin step simplifyBy simplify simplifyAnswer simplifyWords simplifySteps simplifyVisits s l v m simplifyGives bookD
 aside-first = (refl, refl, refl, refl, refl, refl)
 
 -- ---- rewriting at the root
@@ -194,5 +199,15 @@ roots-A :
     × (rootAnswer 3 bookA (5 ∷ []) (s 3 1 ∷ l ∷ []) ≡ BadTerm 2)
     × (rootAnswer 3 [] (5 ∷ []) (s 3 1 ∷ l ∷ []) ≡ BadBook 0)
     × (rootAnswer 3 bookD (treeWords bookD) (s 1 1 ∷ v 65535 ∷ []) ≡ Over)
-unfolding word kind rank count ident headOf headWith words width ranks nesting read firsts others _⧺_ check scan settle mayStand position listed goodList inside idBody idTerm renumberHead renumber namedHead named closed toBody toTerm sameWords padded idsOf leftShape rootSymbol rightShape counted oneCount allOccur noOther goodLeft goodRight goodRule ruleOf judge checkBook accept nthRule ruleAt leftOf tree childrenOf isHead bodyHere occurrences closeds firstOf sames constraints treeOf leftIn rootArguments aside asideArguments withArguments largest withinLimits limited buildAnswer buildWords countsOf placeNumbered numberIn childrenFrom marked enter sub below subsUnder subAt headAt lowestOpen isIn among sameConstraint has unstruck constraintsLeft wordsOf wordsLeft size without heads caseRows defaultRows entering holding rowsWithout testOf variablesFrom leafOf casesOf nodeOf compiler.step compileBy compile bookRows covers withoutId rootSymbols smallest countsFrom headsOf rootHeads rootCaseRows rootCases rootTree bookTree rootCount partOf markedPart childParts insideOf enterPart bodyFor leafBody variableWords caseCount long longCases caseHeads layout layoutCases treeWords goTo variablesIn soundVariable soundVariables leafNode isWord caseOf switchNode closedNode sameNode nodeAt nextAt walkBy walkFrom walk countsFit bookFits shifted replaced inBody write takes withAside rewritten rewriteRoot partAt spliced seekRule lowestOffset wholeWithin step simplifyBy simplify simplifyAnswer simplifyWords simplifySteps s l v m bookA bookD simplifyGives
+unfolding word kind rank count ident headOf headWith words width ranks nesting read firsts others _⧺_ check scan settle mayStand position listed goodList inside idBody idTerm renumberHead renumber namedHead named closed toBody toTerm sameWords padded idsOf leftShape rootSymbol rightShape counted oneCount allOccur noOther goodLeft goodRight goodRule ruleOf judge checkBook accept nthRule ruleAt leftOf tree childrenOf isHead bodyHere occurrences closeds firstOf sames constraints treeOf leftIn rootArguments aside asideArguments withArguments largest withinLimits limited buildAnswer buildWords countsOf placeNumbered numberIn childrenFrom marked enter sub below subsUnder subAt headAt lowestOpen isIn among sameConstraint has unstruck constraintsLeft wordsOf wordsLeft size without heads caseRows defaultRows entering holding rowsWithout testOf variablesFrom leafOf casesOf nodeOf compiler.step compileBy compile bookRows covers withoutId rootSymbols smallest countsFrom headsOf rootHeads rootCaseRows rootCases rootTree bookTree rootCount partOf markedPart childParts insideOf enterPart bodyFor leafBody variableWords caseCount long longCases caseHeads layout layoutCases treeWords goTo variablesIn soundVariable soundVariables leafNode isWord caseOf switchNode closedNode sameNode nodeAt nextAt walkBy walkFrom walk visitsBy visitsFrom visits countsFit bookFits shifted replaced inBody write takes withAside rewritten rewriteRoot partAt spliced seekRule lowestOffset seekVisits searchVisits wholeWithin step simplifyBy simplify simplifyAnswer simplifyWords simplifySteps simplifyVisits s l v m bookA bookD simplifyGives
 roots-A = (refl, refl, refl, refl, refl, refl, refl, refl, refl, refl)
+
+-- the visits of its one walk, none before it
+roots-visits :
+    (rootVisits bookA (treeWords bookA) (s 3 1 ∷ l ∷ v 2 ∷ []) ≡ 4)
+    × (rootVisits bookA (treeWords bookA) (l ∷ s 3 1 ∷ l ∷ v 2 ∷ []) ≡ 2)
+    × (rootVisits bookA (5 ∷ []) (s 3 1 ∷ l ∷ v 2 ∷ []) ≡ 1)
+    × (rootVisits bookA (5 ∷ []) (s 3 1 ∷ l ∷ []) ≡ 0)
+    × (rootVisits [] (5 ∷ []) (s 3 1 ∷ l ∷ []) ≡ 0)
+unfolding word kind rank count ident headOf headWith words width ranks nesting read firsts others _⧺_ check scan settle mayStand position listed goodList inside idBody idTerm renumberHead renumber namedHead named closed toBody toTerm sameWords padded idsOf leftShape rootSymbol rightShape counted oneCount allOccur noOther goodLeft goodRight goodRule ruleOf judge checkBook accept nthRule ruleAt leftOf tree childrenOf isHead bodyHere occurrences closeds firstOf sames constraints treeOf leftIn rootArguments aside asideArguments withArguments largest withinLimits limited buildAnswer buildWords countsOf placeNumbered numberIn childrenFrom marked enter sub below subsUnder subAt headAt lowestOpen isIn among sameConstraint has unstruck constraintsLeft wordsOf wordsLeft size without heads caseRows defaultRows entering holding rowsWithout testOf variablesFrom leafOf casesOf nodeOf compiler.step compileBy compile bookRows covers withoutId rootSymbols smallest countsFrom headsOf rootHeads rootCaseRows rootCases rootTree bookTree rootCount partOf markedPart childParts insideOf enterPart bodyFor leafBody variableWords caseCount long longCases caseHeads layout layoutCases treeWords goTo variablesIn soundVariable soundVariables leafNode isWord caseOf switchNode closedNode sameNode nodeAt nextAt walkBy walkFrom walk visitsBy visitsFrom visits countsFit bookFits shifted replaced inBody write takes withAside rewritten rewriteRoot rootVisits partAt spliced seekRule lowestOffset seekVisits searchVisits wholeWithin step simplifyBy simplify simplifyAnswer simplifyWords simplifySteps simplifyVisits s l v m bookA term-0 term-1 simplifyGives
+roots-visits = (refl, refl, refl, refl, refl)

@@ -2,9 +2,9 @@
 -- So simplifying is read without trees: rules, bodies, offsets and limits.
 use mathlib.Core.Path.{_≡_, refl, sym, ap, _∙_}
 use mathlib.Core.Bool.{Bool, true, false}
-use mathlib.Core.List.{List}
+use mathlib.Core.List.{List, [], _∷_}
 use mathlib.Core.Option.{Option, none, some}
-use Prim.Native.Nat.{ℕ, zero, suc, _≤_, _<_}
+use Prim.Native.Nat.{ℕ, _≤_, _<_}
 use native.Mathlib.Omega.{arith}
 use lib.ListN.{length, getD}
 use Rattle.term.specs.declared.check.Checked.the-variants.{Good}
@@ -27,7 +27,7 @@ use Rattle.walk.proofs.Laws.{walkedOf, begun-with}
 use Rattle.steps.specs.Rewrite.{manyAside, rewritten, walkedRoot, rewriteRoot}
 use Rattle.steps.specs.Offset.{partAt, spliced}
 use Rattle.steps.specs.Step.{Sought, Nowhere, FoundAt, Broken, lowestOffset, Stepped, Rests, Becomes, Refused, wholeWithin, stepTaken, stepFound, step}
-use Rattle.steps.specs.Simplify.{Run, Stopped, Ended, simplifyBy, simplify}
+use Rattle.steps.specs.Simplify.{Search, Run, Stopped, Ended, simplifyBy, simplify}
 use Rattle.steps.proofs.Steps.{SeekIs, lowest-offset-is, part-term, step-term, StepsTo, EndsAs, rests, used, StopsAs, broken, cannot, over, RunIs, run-is, steps-term}
 
 module _ (book : List ℕ) where
@@ -41,19 +41,21 @@ module _ (book : List ℕ) where
   FirstFit t (FoundAt at f) = (at < length (words t)) × FitsAt t at (some f) × ((k : ℕ) → k < at → FitsAt t k none)
   FirstFit t (Broken address) = ⊥
 
-  -- one step: the part there becomes what the rule makes of it, and the whole is within the limits
-  pub record OneStep (t u : Row) : Type 0 where
+  -- one step by the rule of a number: the part there becomes what the rule makes of it, and the whole is within the limits
+  pub record OneStep (rule : ℕ) (t u : Row) : Type 0 where
     pub at : ℕ
     pub fitting : Fitting
+    pub number : rule ≡ fitting .number
     pub first : FirstFit t (FoundAt at fitting)
     pub new : Row
     pub writes : rewritten book (partAt t at) fitting ≡ some new
     pub is : u ≡ spliced t at new
     pub within : withinLimits u ≡ true
 
-  unfoldable pub Reaches : ℕ → Row → Row → Type 0
-  Reaches zero t v = t ≡ v
-  Reaches (suc n) t v = (u : Row) × OneStep t u × Reaches n u v
+  -- steps by the rules of these searches; what the searches visited is not said, since that is of the tree
+  unfoldable pub Reaches : List Search → Row → Row → Type 0
+  Reaches [] t v = t ≡ v
+  Reaches (s ∷ trace) t v = (u : Row) × OneStep (s .rule) t u × Reaches trace u v
 
   -- no rule fits anywhere, or the budget is used and a rule still fits
   pub data Rested (budget n : ℕ) (v : Row) (a : Answer) : Type 0 where
@@ -86,8 +88,8 @@ module _ (book : List ℕ) where
     many : TooMany budget n v a → Barred budget n v a
 
   abbrev pub Simplified : ℕ → Row → Run → Type 0
-  Simplified budget t (Stopped n a) = (v : Row) × Reaches n t v × (n ≤ budget) × Barred budget n v a
-  Simplified budget t (Ended n a v) = Reaches n t v × (n ≤ budget) × Rested budget n v a
+  Simplified budget t (Stopped trace last a) = (v : Row) × Reaches trace t v × (length trace ≤ budget) × Barred budget (length trace) v a
+  Simplified budget t (Ended trace last a v) = Reaches trace t v × (length trace ≤ budget) × Rested budget (length trace) v a
 
 -- ---- a table that begins with an accepted book's tree, whatever follows it
 module _ (book : List ℕ) (accepted : checkBook book ≡ Good) (table : List ℕ) (short : length table ≤ 16384) (lies : Lies table 0 (bookTree book)) where
@@ -140,7 +142,7 @@ module _ (book : List ℕ) (accepted : checkBook book ≡ Good) (table : List �
 
     abbrev StepO : Stepped → Type 0
     StepO Rests = FirstFit book t Nowhere
-    StepO (Becomes u) = OneStep book t u
+    StepO (Becomes rule u) = OneStep book rule t u
     StepO (Refused a) = Barred book 1 0 t a
 
     step-o : (s : Sought) → lowestOffset book table t ≡ s → StepO (stepFound book t s)
@@ -151,11 +153,11 @@ module _ (book : List ℕ) (accepted : checkBook book ≡ Good) (table : List �
         first : FirstFit book t (FoundAt at f)
         first = compiled-found (FoundAt at f) e
 
-        go : (u : Row) → rewritten book (partAt t at) f ≡ some u → (b : Bool) → withinLimits (spliced t at u) ≡ b → StepO (pick b (Becomes (spliced t at u)) (Refused Over))
-        go u w true q = record { at = at; fitting = f; first = first; new = u; writes = w; is = refl; within = q }
+        go : (u : Row) → rewritten book (partAt t at) f ≡ some u → (b : Bool) → withinLimits (spliced t at u) ≡ b → StepO (pick b (Becomes (f .number) (spliced t at u)) (Refused Over))
+        go u w true q = record { at = at; fitting = f; number = refl; first = first; new = u; writes = w; is = refl; within = q }
         go u w false q = large (record { answer = refl; left = omega arith; at = at; fitting = f; first = first; new = u; writes = w; large = q })
 
-        taken : (o : Option Row) → rewritten book (partAt t at) f ≡ o → StepO (stepTaken t at (manyAside book (partAt t at) f) o)
+        taken : (o : Option Row) → rewritten book (partAt t at) f ≡ o → StepO (stepTaken t at (f .number) (manyAside book (partAt t at) f) o)
         taken none w = many (record { at = at; fitting = f; answer = refl; left = omega arith; first = first; refuses = w })
         taken (some u) w = go u w (withinLimits (spliced t at u)) refl
     step-o (Broken address) e = absurd (compiled-found (Broken address) e)
@@ -165,11 +167,11 @@ module _ (book : List ℕ) (accepted : checkBook book ≡ Good) (table : List �
     compiled-step = step-o (lowestOffset book table t) refl
 
   -- ---- simplifying
-  reaches : (n : ℕ) (t v : Row) → IsBody t → StepsTo book table n t v → Reaches book n t v
+  reaches : (trace : List Search) (t v : Row) → IsBody t → StepsTo book table trace t v → Reaches book trace t v
   unfolding Reaches StepsTo
-  reaches zero t v i s = s
-  reaches (suc n) t v i s =
-      (s .0, rw (s .1) at (compiled-step t i), reaches n (s .0) v (step-term book accepted table t (s .0) i (s .1)) (s .2))
+  reaches [] t v i s = s
+  reaches (x ∷ trace) t v i s =
+      (s .0, rw (s .1) at (compiled-step t i), reaches trace (s .0) v (step-term book accepted table (x .rule) t (s .0) i (s .1)) (s .3))
 
   rested : (budget n : ℕ) (v : Row) (a : Answer) → IsBody v → EndsAs book table budget n v a → Rested book budget n v a
   rested budget n v a i (rests e q) = normal e (rw q at (compiled-offset v i))
@@ -181,10 +183,10 @@ module _ (book : List ℕ) (accepted : checkBook book ≡ Good) (table : List �
   barred budget n v a i (over e m at f q u w z) = large (record { answer = e; left = m; at = at; fitting = f; first = rw q at (compiled-offset v i); new = u; writes = w; large = z })
 
   run-of : (budget : ℕ) (t : Row) → IsBody t → (r : Run) → RunIs book table budget t r → Simplified book budget t r
-  run-of budget t i (Stopped n a) r =
-      (r .0, reaches n t (r .0) i (r .1), r .2, barred budget n (r .0) a (steps-term book table accepted n t (r .0) i (r .1)) (r .3))
-  run-of budget t i (Ended n a v) r =
-      (reaches n t v i (r .0), r .1, rested budget n v a (steps-term book table accepted n t v i (r .0)) (r .2))
+  run-of budget t i (Stopped trace last a) r =
+      (r .0, reaches trace t (r .0) i (r .1), r .2, barred budget (length trace) (r .0) a (steps-term book table accepted trace t (r .0) i (r .1)) (r .3))
+  run-of budget t i (Ended trace last a v) r =
+      (reaches trace t v i (r .0), r .1, rested budget (length trace) v a (steps-term book table accepted trace t v i (r .0)) (r .2))
 
   module _ (ws : List ℕ) (term : IsTerm ws) where
     -- simplifying a term with the compiled tree: as many steps as it says, each at the lowest offset at which some rule fits, to a term in which none fits, or as far as the budget, the arguments set aside or the limits go

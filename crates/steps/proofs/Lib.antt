@@ -32,6 +32,7 @@ mod Seeks
 mod Moves
 mod Runs
 mod Judgements
+mod Traces
 mod RunWords
 mod Came
 pub mod Laws

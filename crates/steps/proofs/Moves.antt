@@ -1,5 +1,5 @@
 -- A step in the work area is a step of the definition: the words spliced are those of the term with the part replaced, and checking them judges its limits.
-use mathlib.Core.Path.{_≡_, refl, sym, ap, _∙_}
+use mathlib.Core.Path.{_≡_, refl, sym, ap, ap₂, _∙_}
 use mathlib.Core.Bool.{Bool, true, false}
 use mathlib.Core.List.{List, _++_}
 use mathlib.Core.Option.{Option, none, some}
@@ -23,11 +23,11 @@ use Rattle.walk.specs.Walk.{walk, bookFits}
 use Rattle.steps.specs.Rewrite.{manyAside, rewritten}
 use Rattle.steps.specs.Offset.{partAt, spliced}
 use Rattle.steps.specs.told.Area.{splicedWords, SpliceTold}
-use Rattle.steps.specs.Step.{Sought, Nowhere, FoundAt, Broken, lowestOffset, Rests, Refused, wholeWithin, stepTaken, stepFound, step}
-use Rattle.steps.specs.declared.simplify.Lowest.the-variants as lowest
+use Rattle.steps.specs.Step.{Sought, Nowhere, FoundAt, Broken, lowestOffset, wholeWithin, stepTaken, stepFound, step}
+use Rattle.steps.specs.declared.rules.Rewrote.the-variants as rewrote
 use Rattle.steps.specs.declared.simplify.Moved.{Moved}
 use Rattle.steps.specs.declared.simplify.Moved.the-variants as moved
-use Rattle.steps.specs.told.Operations.{FoundTaken, LowestTold, ReplaceTold, MoveTold}
+use Rattle.steps.specs.told.Operations.{TakenTold, LowestTold, ReplaceTold, MoveTold}
 use Rattle.steps.proofs.Shaped.{formed-shaped, limits-within}
 use Rattle.steps.proofs.Offsets.{spliced-words, part-end, splice-keeps}
 use Rattle.steps.proofs.Limits.{splice-nests, within-part, check-within, within-check}
@@ -39,18 +39,18 @@ module _ (ws : List ℕ) (at : ℕ) (new area : List ℕ) where
   abbrev whole : List ℕ
   whole = splicedWords ws at new
 
-  pub replace-long : SpliceTold ws at new area Stuck → ReplaceTold (splicedWords ws at new) area (moved.Refused answer.Over)
+  pub replace-long : SpliceTold ws at new area Stuck → ReplaceTold (splicedWords ws at new) area (moved.Ends answer.Over 0)
   unfolding SpliceTold
-  replace-long l = (refl, λ g. let i = good-tree termLimits (omega arith) whole g in omega (arith, l, i .short))
+  replace-long l = (refl, refl, λ g. let i = good-tree termLimits (omega arith) whole g in omega (arith, l, i .short))
 
   module _ (size : ℕ) (s : SpliceTold ws at new area (Done size)) where
     pub replace-few : size ≤ 4096
     unfolding SpliceTold
     replace-few = s .1
 
-    pub replace-bad : (bad : ℕ) → check termLimits (take size area) ≡ Bad bad → ReplaceTold (splicedWords ws at new) area (moved.Refused answer.Over)
+    pub replace-bad : (bad : ℕ) → check termLimits (take size area) ≡ Bad bad → ReplaceTold (splicedWords ws at new) area (moved.Ends answer.Over 0)
     unfolding SpliceTold
-    replace-bad bad e = (refl, λ g. let z : check termLimits whole ≡ Bad bad = sym (ap (check termLimits) (s .2)) ∙ e in never (cc))
+    replace-bad bad e = (refl, refl, λ g. let z : check termLimits whole ≡ Bad bad = sym (ap (check termLimits) (s .2)) ∙ e in never (cc))
 
     pub replace-good : check termLimits (take size area) ≡ Good → ReplaceTold (splicedWords ws at new) area (moved.To size)
     unfolding SpliceTold
@@ -120,10 +120,10 @@ module _ (book : List ℕ) (accepted : checkBook book ≡ Good) (table ws : List
         let q = rw (w, words-are) at r in
         (new-within (q .0) e, q .1, q .2)
 
-    pub found-refused : (n : ℕ) (new area : List ℕ) → take n new ≡ words u → (a : Answer) → ReplaceTold (splicedWords ws at (take n new)) area (moved.Refused a) → (withinLimits v ≡ false) × (a ≡ answer.Over)
-    found-refused n new area w a r =
+    pub found-refused : (n : ℕ) (new area : List ℕ) → take n new ≡ words u → (a : Answer) (size : ℕ) → ReplaceTold (splicedWords ws at (take n new)) area (moved.Ends a size) → (withinLimits v ≡ false) × (a ≡ answer.Over) × (size ≡ 0)
+    found-refused n new area w a size r =
         let q = rw (w, words-are) at r in
-        (new-over (q .1), q .0)
+        (new-over (q .2), q .0, q .1)
 
   -- ---- a step, by what was sought
   abbrev Sees : Sought → Type 0
@@ -135,94 +135,95 @@ module _ (book : List ℕ) (accepted : checkBook book ≡ Good) (table ws : List
   abbrev many : ℕ → Fitting → ℕ
   many at f = manyAside book (partAt (treeOf ws) at) f
 
-  module _ (new before area : List ℕ) where
-    pub move-rests : LowestTold book (treeOf ws) (lowestOffset book table (treeOf ws)) new lowest.Nowhere → area ≡ before → MoveTold (step book table (treeOf ws)) before area moved.Rests
+  module _ (new before area : List ℕ) (size at : ℕ) where
+    pub move-rests : LowestTold book (treeOf ws) (lowestOffset book table (treeOf ws)) new at rewrote.None → area ≡ before → MoveTold (step book table (treeOf ws)) size before area (moved.Ends answer.Done size)
     unfolding step LowestTold MoveTold
     move-rests l e = go sought l
       where
-        taken : (at n : ℕ) (o : Option Row) → FoundTaken at n o new lowest.Nowhere → ⊥
-        taken at n none l = let z : lowest.Nowhere ≡ lowest.CannotTake n = l in never (cc)
-        taken at n (some u) l = l
+        taken : (n : ℕ) (o : Option Row) → TakenTold n o new rewrote.None → ⊥
+        taken n none l = let z : rewrote.None ≡ rewrote.CannotTake n = l in never (cc)
+        taken n (some u) l = l
 
-        go : (s : Sought) → LowestTold book (treeOf ws) s new lowest.Nowhere → MoveTold (stepFound book t s) before area moved.Rests
+        go : (s : Sought) → LowestTold book (treeOf ws) s new at rewrote.None → MoveTold (stepFound book t s) size before area (moved.Ends answer.Done size)
         go Nowhere l = (refl, e)
-        go (FoundAt at f) l = absurd (taken at (many at f) (made-of at f) l)
-        go (Broken address) l = let z : lowest.Nowhere ≡ lowest.Broken address = l in never (cc)
+        go (FoundAt a f) l = absurd (taken (many a f) (made-of a f) (l .1))
+        go (Broken address) l = let z : rewrote.None ≡ rewrote.Damaged address = l in never (cc)
 
-    pub move-broken : (address : ℕ) → LowestTold book (treeOf ws) (lowestOffset book table (treeOf ws)) new (lowest.Broken address) → MoveTold (step book table (treeOf ws)) before area (moved.Refused (answer.Damaged address))
+    pub move-broken : (address : ℕ) → LowestTold book (treeOf ws) (lowestOffset book table (treeOf ws)) new at (rewrote.Damaged address)
+        → MoveTold (step book table (treeOf ws)) size before area (moved.Ends (answer.Damaged address) 0)
     unfolding step LowestTold MoveTold
     move-broken address l = go sought l
       where
-        taken : (at n : ℕ) (o : Option Row) → FoundTaken at n o new (lowest.Broken address) → ⊥
-        taken at n none l = let z : lowest.Broken address ≡ lowest.CannotTake n = l in never (cc)
-        taken at n (some u) l = l
+        taken : (n : ℕ) (o : Option Row) → TakenTold n o new (rewrote.Damaged address) → ⊥
+        taken n none l = let z : rewrote.Damaged address ≡ rewrote.CannotTake n = l in never (cc)
+        taken n (some u) l = l
 
-        go : (s : Sought) → LowestTold book (treeOf ws) s new (lowest.Broken address) → MoveTold (stepFound book t s) before area (moved.Refused (answer.Damaged address))
-        go Nowhere l = let z : lowest.Broken address ≡ lowest.Nowhere = l in never (cc)
-        go (FoundAt at f) l = absurd (taken at (many at f) (made-of at f) l)
-        go (Broken a) l = let z : lowest.Broken address ≡ lowest.Broken a = l in let y : address ≡ a = cc in ap (λ (n : ℕ). moved.Refused (answer.Damaged n)) y
+        go : (s : Sought) → LowestTold book (treeOf ws) s new at (rewrote.Damaged address) → MoveTold (stepFound book t s) size before area (moved.Ends (answer.Damaged address) 0)
+        go Nowhere l = let z : rewrote.Damaged address ≡ rewrote.None = l in never (cc)
+        go (FoundAt a f) l = absurd (taken (many a f) (made-of a f) (l .1))
+        go (Broken b) l = let z : rewrote.Damaged address ≡ rewrote.Damaged b = l in let y : address ≡ b = cc in ap (λ (n : ℕ). moved.Ends (answer.Damaged n) 0) y
 
-    pub move-cannot : (n : ℕ) → LowestTold book (treeOf ws) (lowestOffset book table (treeOf ws)) new (lowest.CannotTake n) → MoveTold (step book table (treeOf ws)) before area (moved.Refused (answer.CannotTake n))
+    pub move-cannot : (n : ℕ) → LowestTold book (treeOf ws) (lowestOffset book table (treeOf ws)) new at (rewrote.CannotTake n)
+        → MoveTold (step book table (treeOf ws)) size before area (moved.Ends (answer.CannotTake n) 0)
     unfolding step LowestTold MoveTold
     move-cannot n l = go sought l
       where
-        taken : (at m : ℕ) (o : Option Row) → FoundTaken at m o new (lowest.CannotTake n) → MoveTold (stepTaken t at m o) before area (moved.Refused (answer.CannotTake n))
-        taken at m none l = let z : lowest.CannotTake n ≡ lowest.CannotTake m = l in let y : n ≡ m = cc in ap (λ (k : ℕ). moved.Refused (answer.CannotTake k)) y
-        taken at m (some u) l = absurd l
+        taken : (a rule m : ℕ) (o : Option Row) → TakenTold m o new (rewrote.CannotTake n) → MoveTold (stepTaken t a rule m o) size before area (moved.Ends (answer.CannotTake n) 0)
+        taken a rule m none l = let z : rewrote.CannotTake n ≡ rewrote.CannotTake m = l in let y : n ≡ m = cc in ap (λ (k : ℕ). moved.Ends (answer.CannotTake k) 0) y
+        taken a rule m (some u) l = absurd l
 
-        go : (s : Sought) → LowestTold book (treeOf ws) s new (lowest.CannotTake n) → MoveTold (stepFound book t s) before area (moved.Refused (answer.CannotTake n))
-        go Nowhere l = let z : lowest.CannotTake n ≡ lowest.Nowhere = l in never (cc)
-        go (FoundAt at f) l = taken at (many at f) (made-of at f) l
-        go (Broken a) l = let z : lowest.CannotTake n ≡ lowest.Broken a = l in never (cc)
+        go : (s : Sought) → LowestTold book (treeOf ws) s new at (rewrote.CannotTake n) → MoveTold (stepFound book t s) size before area (moved.Ends (answer.CannotTake n) 0)
+        go Nowhere l = let z : rewrote.CannotTake n ≡ rewrote.None = l in never (cc)
+        go (FoundAt a f) l = taken a (f .number) (many a f) (made-of a f) (l .1)
+        go (Broken b) l = let z : rewrote.CannotTake n ≡ rewrote.Damaged b = l in never (cc)
 
-    pub move-over : LowestTold book (treeOf ws) (lowestOffset book table (treeOf ws)) new lowest.Over → MoveTold (step book table (treeOf ws)) before area (moved.Refused answer.Over)
+    pub move-over : LowestTold book (treeOf ws) (lowestOffset book table (treeOf ws)) new at rewrote.Over → MoveTold (step book table (treeOf ws)) size before area (moved.Ends answer.Over 0)
     unfolding step LowestTold MoveTold wholeWithin
     move-over l = go sought (lowest-offset-is book table t) l
       where
-        taken : (at : ℕ) (f : Fitting) → Sees (FoundAt at f) → (o : Option Row) → made-of at f ≡ o → FoundTaken at (many at f) o new lowest.Over
-            → MoveTold (stepTaken t at (many at f) o) before area (moved.Refused answer.Over)
-        taken at f k none q l = let z : lowest.Over ≡ lowest.CannotTake (many at f) = l in never (cc)
-        taken at f k (some u) q l = rw (found-over at f k u q l) refl
+        taken : (a : ℕ) (f : Fitting) → Sees (FoundAt a f) → (o : Option Row) → made-of a f ≡ o → TakenTold (many a f) o new rewrote.Over
+            → MoveTold (stepTaken t a (f .number) (many a f) o) size before area (moved.Ends answer.Over 0)
+        taken a f k none q l = let z : rewrote.Over ≡ rewrote.CannotTake (many a f) = l in never (cc)
+        taken a f k (some u) q l = rw (found-over a f k u q l) refl
 
-        go : (s : Sought) → Sees s → LowestTold book (treeOf ws) s new lowest.Over → MoveTold (stepFound book t s) before area (moved.Refused answer.Over)
-        go Nowhere k l = let z : lowest.Over ≡ lowest.Nowhere = l in never (cc)
-        go (FoundAt at f) k l = taken at f k (made-of at f) refl l
-        go (Broken a) k l = let z : lowest.Over ≡ lowest.Broken a = l in never (cc)
+        go : (s : Sought) → Sees s → LowestTold book (treeOf ws) s new at rewrote.Over → MoveTold (stepFound book t s) size before area (moved.Ends answer.Over 0)
+        go Nowhere k l = let z : rewrote.Over ≡ rewrote.None = l in never (cc)
+        go (FoundAt a f) k l = taken a f k (made-of a f) refl (l .1)
+        go (Broken b) k l = let z : rewrote.Over ≡ rewrote.Damaged b = l in never (cc)
 
-    module _ (at n : ℕ) (l : LowestTold book (treeOf ws) (lowestOffset book table (treeOf ws)) new (lowest.At at n)) where
+    module _ (n : ℕ) (l : LowestTold book (treeOf ws) (lowestOffset book table (treeOf ws)) new at (rewrote.Wrote n)) where
       pub move-inside : (at < length ws) × (n ≤ 4096)
       unfolding LowestTold
       move-inside = go sought (lowest-offset-is book table t) l
         where
-          taken : (a : ℕ) (f : Fitting) → Sees (FoundAt a f) → (o : Option Row) → made-of a f ≡ o → FoundTaken a (many a f) o new (lowest.At at n) → (at < length ws) × (n ≤ 4096)
-          taken a f k none q l = let z : lowest.At at n ≡ lowest.CannotTake (many a f) = l in never (cc)
-          taken a f k (some u) q l = (rw (l .0) (found-inside a f k u q), l .3)
+          taken : (a : ℕ) (f : Fitting) → Sees (FoundAt a f) → at ≡ a → (o : Option Row) → made-of a f ≡ o → TakenTold (many a f) o new (rewrote.Wrote n) → (at < length ws) × (n ≤ 4096)
+          taken a f k e none q l = let z : rewrote.Wrote n ≡ rewrote.CannotTake (many a f) = l in never (cc)
+          taken a f k e (some u) q l = (rw e (found-inside a f k u q), l .2)
 
-          go : (s : Sought) → Sees s → LowestTold book (treeOf ws) s new (lowest.At at n) → (at < length ws) × (n ≤ 4096)
-          go Nowhere k l = let z : lowest.At at n ≡ lowest.Nowhere = l in never (cc)
-          go (FoundAt a f) k l = taken a f k (made-of a f) refl l
-          go (Broken a) k l = let z : lowest.At at n ≡ lowest.Broken a = l in never (cc)
+          go : (s : Sought) → Sees s → LowestTold book (treeOf ws) s new at (rewrote.Wrote n) → (at < length ws) × (n ≤ 4096)
+          go Nowhere k l = let z : rewrote.Wrote n ≡ rewrote.None = l in never (cc)
+          go (FoundAt a f) k l = taken a f k (l .0) (made-of a f) refl (l .1)
+          go (Broken b) k l = let z : rewrote.Wrote n ≡ rewrote.Damaged b = l in never (cc)
 
-      pub move-replaced : (r : Moved) → ReplaceTold (splicedWords ws at (take n new)) area r → MoveTold (step book table (treeOf ws)) before area r
+      pub move-replaced : (r : Moved) → ReplaceTold (splicedWords ws at (take n new)) area r → MoveTold (step book table (treeOf ws)) size before area r
       unfolding step LowestTold MoveTold wholeWithin
       move-replaced r p = go sought (lowest-offset-is book table t) l
         where
-          put : (a : ℕ) (f : Fitting) → Sees (FoundAt a f) → (u : Row) → made-of a f ≡ some u → FoundTaken a (many a f) (some u) new (lowest.At at n)
-              → (r : Moved) → ReplaceTold (splicedWords ws at (take n new)) area r → MoveTold (stepTaken t a (many a f) (some u)) before area r
-          put a f k u q l moved.Rests p = absurd p
-          put a f k u q l (moved.To size) p =
-              let x = found-to a f k u q n new area (l .1) (l .4) size (rw (l .0) at p) in
-              rw (x .0) (size, refl, x .1, x .2)
-          put a f k u q l (moved.Refused b) p =
-              let x = found-refused a f k u q n new area (l .4) b (rw (l .0) at p) in
-              rw (x .0) (ap moved.Refused (x .1))
+          put : (a : ℕ) (f : Fitting) → Sees (FoundAt a f) → at ≡ a → (u : Row) → made-of a f ≡ some u → TakenTold (many a f) (some u) new (rewrote.Wrote n)
+              → (r : Moved) → ReplaceTold (splicedWords ws at (take n new)) area r → MoveTold (stepTaken t a (f .number) (many a f) (some u)) size before area r
+          put a f k e u q l (moved.To m) p =
+              let x = found-to a f k u q n new area (l .0) (l .3) m (rw e at p) in
+              rw (x .0) (m, refl, x .1, x .2)
+          put a f k e u q l (moved.Ends b m) p =
+              let x = found-refused a f k u q n new area (l .3) b m (rw e at p) in
+              rw (x .0) (ap₂ moved.Ends (x .1) (x .2))
 
-          taken : (a : ℕ) (f : Fitting) → Sees (FoundAt a f) → (o : Option Row) → made-of a f ≡ o → FoundTaken a (many a f) o new (lowest.At at n)
-              → MoveTold (stepTaken t a (many a f) o) before area r
-          taken a f k none q l = let z : lowest.At at n ≡ lowest.CannotTake (many a f) = l in never (cc)
-          taken a f k (some u) q l = put a f k u q l r p
+          taken : (a : ℕ) (f : Fitting) → Sees (FoundAt a f) → at ≡ a → (o : Option Row) → made-of a f ≡ o → TakenTold (many a f) o new (rewrote.Wrote n)
+              → MoveTold (stepTaken t a (f .number) (many a f) o) size before area r
+          taken a f k e none q l = let z : rewrote.Wrote n ≡ rewrote.CannotTake (many a f) = l in never (cc)
+          taken a f k e (some u) q l = put a f k e u q l r p
 
-          go : (s : Sought) → Sees s → LowestTold book (treeOf ws) s new (lowest.At at n) → MoveTold (stepFound book t s) before area r
-          go Nowhere k l = let z : lowest.At at n ≡ lowest.Nowhere = l in never (cc)
-          go (FoundAt a f) k l = taken a f k (made-of a f) refl l
-          go (Broken a) k l = let z : lowest.At at n ≡ lowest.Broken a = l in never (cc)
+          go : (s : Sought) → Sees s → LowestTold book (treeOf ws) s new at (rewrote.Wrote n) → MoveTold (stepFound book t s) size before area r
+          go Nowhere k l = let z : rewrote.Wrote n ≡ rewrote.None = l in never (cc)
+          go (FoundAt a f) k l = taken a f k (l .0) (made-of a f) refl (l .1)
+          go (Broken b) k l = let z : rewrote.Wrote n ≡ rewrote.Damaged b = l in never (cc)

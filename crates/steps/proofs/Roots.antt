@@ -1,5 +1,5 @@
 -- What rewriting at the root answers and leaves, way by way: the book, the term, and then how the walk and the rule ended.
-use mathlib.Core.Path.{_≡_, sym, ap, _∙_}
+use mathlib.Core.Path.{_≡_, refl, sym, ap, _∙_}
 use mathlib.Core.List.{List}
 use mathlib.Core.Option.{Option, none, some}
 use Prim.Native.Nat.{ℕ, _≤_, _<_}
@@ -19,11 +19,12 @@ use Rattle.book.specs.Accept.{accept}
 use Rattle.fit.specs.Match.{treeOf}
 use Rattle.fit.specs.Build.{Built, refused, built, buildAnswer, buildWords}
 use Rattle.fit.proofs.Laws.{tree-of, limited-is, refused-built, built-built}
-use Rattle.walk.specs.Walk.{Walked, NoneFits, RuleFits, DamagedAt}
+use Rattle.walk.specs.Walk.{Walked, NoneFits, RuleFits, DamagedAt, visits}
+use Rattle.walk.specs.ByTree.{termVisits}
 use Rattle.walk.specs.told.State.{partFrom, Parted}
-use Rattle.walk.specs.told.WithBook.{bookWalk}
+use Rattle.walk.specs.told.WithBook.{bookWalk, bookVisits}
 use Rattle.walk.proofs.Laws.{from-stands}
-use Rattle.steps.specs.Rewrite.{manyAside, rewritten, takenRoot, walkedRoot, rootWithTerm, rootWithBook, rewriteRoot}
+use Rattle.steps.specs.Rewrite.{manyAside, rewritten, takenRoot, walkedRoot, rootWithTerm, rootWithBook, rewriteRoot, soundVisits, rootVisits}
 use Rattle.steps.specs.declared.rules.Rewrote.the-variants as rewrote
 use Rattle.steps.specs.told.Operations.{asked, TakenTold, RewriteTold, givenAnswer}
 use Rattle.steps.proofs.Shaped.{some-long}
@@ -136,3 +137,22 @@ module _ (room : ℕ) (book table ws : List ℕ) where
   root-walked e r out t =
       let p : partFrom ws 0 ≡ treeOf ws = whole-part ws (is-term book ws e) in
       rw (sound-book book ws e, sound-term book ws e) (rw p at t)
+
+  -- ---- the visits of the one walk, none before it
+  pub refused-visits : (a : Answer) → asked (accept book) (check termLimits ws) ≡ Refused a → 0 ≡ rootVisits book table ws
+  unfolding rootVisits
+  refused-visits a e = by-book (accept book) e
+    where
+      by-term : (t : Checked) → asked Sound t ≡ Refused a → 0 ≡ termVisits t (visits table (treeOf ws))
+      by-term Good e = never (cc)
+      by-term (Bad at) e = refl
+
+      by-book : (b : Accepted) → asked b (check termLimits ws) ≡ Refused a → 0 ≡ soundVisits table ws b
+      by-book Sound e = by-term (check termLimits ws) e
+      by-book (Refused d) e = refl
+
+  pub walked-visits : asked (accept book) (check termLimits ws) ≡ Sound → (n : ℕ) → n ≡ bookVisits table ws → n ≡ rootVisits book table ws
+  unfolding rootVisits
+  walked-visits e n v =
+      let p : partFrom ws 0 ≡ treeOf ws = whole-part ws (is-term book ws e) in
+      rw (sound-book book ws e, sound-term book ws e) (rw p at v)

@@ -1,12 +1,13 @@
--- What is said of simplifying without trees settles it: the lowest offset, the lowest rule there and its bodies are the only ones, so each step has one outcome, and so has a run.
+-- What is said of simplifying without trees settles the answer, the rules of the steps and the term: the lowest offset, the lowest rule there and its bodies are the only ones, so
+-- each step has one outcome, and so has a run. The visits it does not settle: these are of the tree.
 use mathlib.Core.Path.{_≡_, refl, sym, ap, ap₂, _∙_}
 use mathlib.Core.Bool.{Bool, true, false}
-use mathlib.Core.List.{List}
+use mathlib.Core.List.{List, [], _∷_}
 use mathlib.Core.Option.{Option, none, some}
 use Prim.Native.Nat.{ℕ, zero, suc, _≤_, _<_}
 use native.Mathlib.Omega.{arith}
 use lib.Dec.{ltb}
-use lib.ListN.{getD}
+use lib.ListN.{length, getD}
 use borrow.Author.Tests.{ltb-true, ltb-false}
 use Rattle.term.specs.declared.check.Checked.the-variants.{Good}
 use Rattle.term.specs.declared.answer.Answer.{Answer}
@@ -27,7 +28,7 @@ use Rattle.steps.specs.Arguments.{withAside}
 use Rattle.steps.specs.Rewrite.{rightIn, setAside, manyAside, rewritten}
 use Rattle.steps.specs.Offset.{partAt, spliced}
 use Rattle.steps.specs.Step.{Nowhere, FoundAt}
-use Rattle.steps.specs.Simplify.{Run, Stopped, Ended}
+use Rattle.steps.specs.Simplify.{Search, Run, Stopped, Ended, simplifySteps}
 use Rattle.steps.proofs.Writing.{write-nothing, write-node}
 use Rattle.steps.proofs.RightRows.{parametersOf, accepted-right}
 use Rattle.steps.proofs.Steps.{part-term, rule-writes, spliced-term}
@@ -57,6 +58,32 @@ equal-numbers n m a b = go (ltb n m) (ltb m n) refl refl
     go true q e f = absurd (a (ltb-true n m e))
     go false true e f = absurd (b (ltb-true m n f))
     go false false e f = let x = ltb-false n m e in let y = ltb-false m n f in omega arith
+
+-- ---- the rules of a trace, and the same end: refused with one answer, or one answer and one term, after steps by the same rules
+abbrev pub rulesOf : List Search → List ℕ
+rulesOf [] = []
+rulesOf (s ∷ trace) = s .rule ∷ rulesOf trace
+
+abbrev pub SameEnd : Run → Run → Type 0
+SameEnd (Stopped x k a) (Stopped y l c) = (a ≡ c) × (rulesOf x ≡ rulesOf y)
+SameEnd (Stopped x k a) (Ended y l c w) = ⊥
+SameEnd (Ended x k a v) (Stopped y l c) = ⊥
+SameEnd (Ended x k a v) (Ended y l c w) = (a ≡ c) × (rulesOf x ≡ rulesOf y) × (v ≡ w)
+
+many-rules : (trace : List Search) → length (rulesOf trace) ≡ length trace
+many-rules [] = refl
+many-rules (s ∷ trace) = ap suc (many-rules trace)
+
+same-long : (x y : List Search) → rulesOf x ≡ rulesOf y → length x ≡ length y
+same-long x y e = sym (many-rules x) ∙ ap length e ∙ many-rules y
+
+-- as many steps
+pub same-steps : (r s : Run) → SameEnd r s → simplifySteps r ≡ simplifySteps s
+unfolding simplifySteps
+same-steps (Stopped x k a) (Stopped y l c) e = same-long x y (e .1)
+same-steps (Stopped x k a) (Ended y l c w) e = absurd e
+same-steps (Ended x k a v) (Stopped y l c) e = absurd e
+same-steps (Ended x k a v) (Ended y l c w) e = same-long x y (e .1)
 
 module _ (book : List ℕ) (accepted : checkBook book ≡ Good) where
   -- ---- the lowest rule that fits a term, and its bodies, are the only ones
@@ -105,6 +132,9 @@ module _ (book : List ℕ) (accepted : checkBook book ≡ Good) where
     at-one : LowestFrontFits book 0 (getD book 0 0) (partAt t m) g
     at-one = rw same-offset (c .1)
 
+    same-lowest : f .number ≡ g .number
+    same-lowest = same-number (partAt t m) (part-term t i m (a .0)) f g (a .1) at-one
+
     pub same-made : rewritten book (partAt t m) f ≡ rewritten book (partAt t n) g
     same-made =
         same-written (partAt t m) (part-term t i m (a .0)) f g
@@ -120,13 +150,15 @@ module _ (book : List ℕ) (accepted : checkBook book ≡ Good) where
     pub same-spliced : (u v : Row) → rewritten book (partAt t m) f ≡ some u → rewritten book (partAt t n) g ≡ some v → spliced t m u ≡ spliced t n v
     same-spliced u v x y = let z : u ≡ v = (let q = same-made in cc) in ap₂ (spliced t) same-offset z
 
-  -- a step has one outcome, and that is a term
-  pub one-outcome : (t u v : Row) → IsBody t → OneStep book t u → OneStep book t v → u ≡ v
-  one-outcome t u v i a c =
-      a .is ∙ same-spliced t i (a .at) (c .at) (a .fitting) (c .fitting) (a .first) (c .first) (a .new) (c .new) (a .writes) (c .writes) ∙ sym (c .is)
+  -- a step has one rule and one outcome, and that is a term
+  pub one-outcome : (rule other : ℕ) (t u v : Row) → IsBody t → OneStep book rule t u → OneStep book other t v → (rule ≡ other) × (u ≡ v)
+  one-outcome rule other t u v i a c = (
+    a .number ∙ same-lowest t i (a .at) (c .at) (a .fitting) (c .fitting) (a .first) (c .first) ∙ sym (c .number),
+    a .is ∙ same-spliced t i (a .at) (c .at) (a .fitting) (c .fitting) (a .first) (c .first) (a .new) (c .new) (a .writes) (c .writes) ∙ sym (c .is),
+  )
 
-  outcome-term : (t u : Row) → IsBody t → OneStep book t u → IsBody u
-  outcome-term t u i s =
+  outcome-term : (rule : ℕ) (t u : Row) → IsBody t → OneStep book rule t u → IsBody u
+  outcome-term rule t u i s =
       let l = s .first .1 in
       rw (s .is)
       (spliced-term book accepted book t i (s .at) (s .first .0) (s .new)
@@ -136,34 +168,36 @@ module _ (book : List ℕ) (accepted : checkBook book ≡ Good) where
   -- ---- a run has one end
   data Halts (budget n : ℕ) (v : Row) : Type 0 where
     full : n ≡ budget → Halts budget n v
-    stuck : ((u : Row) → OneStep book v u → ⊥) → Halts budget n v
+    stuck : ((rule : ℕ) (u : Row) → OneStep book rule v u → ⊥) → Halts budget n v
 
   halts-less : (budget n : ℕ) (v : Row) → Halts (suc budget) (suc n) v → Halts budget n v
   halts-less budget n v (full e) = full (omega arith)
   halts-less budget n v (stuck s) = stuck s
 
-  no-first : (budget m : ℕ) (t u : Row) → Halts budget 0 t → OneStep book t u → suc m ≤ budget → ⊥
-  no-first budget m t u (full e) s l = omega arith
-  no-first budget m t u (stuck h) s l = h u s
+  no-first : (budget m rule : ℕ) (t u : Row) → Halts budget 0 t → OneStep book rule t u → suc m ≤ budget → ⊥
+  no-first budget m rule t u (full e) s l = omega arith
+  no-first budget m rule t u (stuck h) s l = h rule u s
 
-  one-end : (budget n m : ℕ) (t v w : Row) → IsBody t → Reaches book n t v → Reaches book m t w → n ≤ budget → m ≤ budget → Halts budget n v → Halts budget m w → (n ≡ m) × (v ≡ w)
+  one-end : (budget : ℕ) (x y : List Search) (t v w : Row) → IsBody t → Reaches book x t v → Reaches book y t w → length x ≤ budget → length y ≤ budget
+      → Halts budget (length x) v → Halts budget (length y) w → (length x ≡ length y) × (v ≡ w) × (rulesOf x ≡ rulesOf y)
   unfolding Reaches
-  one-end budget zero zero t v w i r s a c h k = (refl, sym r ∙ s)
-  one-end budget zero (suc m) t v w i r s a c h k = absurd (no-first budget m t (s .0) (rw (sym r) at h) (s .1) c)
-  one-end budget (suc n) zero t v w i r s a c h k = absurd (no-first budget n t (r .0) (rw (sym s) at k) (r .1) a)
-  one-end zero (suc n) (suc m) t v w i r s a c h k = absurd (omega arith)
-  one-end (suc budget) (suc n) (suc m) t v w i r s a c h k =
-      let e = one-outcome t (r .0) (s .0) i (r .1) (s .1) in
-      let q = one-end budget n m (r .0) v w (outcome-term t (r .0) i (r .1)) (r .2) (rw e (s .2)) (omega arith) (omega arith) (halts-less budget n v h) (halts-less budget m w k) in
-      (ap suc (q .0), q .1)
+  one-end budget [] [] t v w i r s a c h k = (refl, sym r ∙ s, refl)
+  one-end budget [] (q ∷ y) t v w i r s a c h k = absurd (no-first budget (length y) (q .rule) t (s .0) (rw (sym r) at h) (s .1) c)
+  one-end budget (p ∷ x) [] t v w i r s a c h k = absurd (no-first budget (length x) (p .rule) t (r .0) (rw (sym s) at k) (r .1) a)
+  one-end zero (p ∷ x) (q ∷ y) t v w i r s a c h k = absurd (omega arith)
+  one-end (suc budget) (p ∷ x) (q ∷ y) t v w i r s a c h k =
+      let e = one-outcome (p .rule) (q .rule) t (r .0) (s .0) i (r .1) (s .1) in
+      let o =
+      one-end budget x y (r .0) v w (outcome-term (p .rule) t (r .0) i (r .1)) (r .2) (rw (e .1) (s .2)) (omega arith) (omega arith) (halts-less budget (length x) v h) (halts-less budget (length y) w k) in
+      (ap suc (o .0), o .1, ap₂ _∷_ (e .0) (o .2))
 
   rested-halts : (budget n : ℕ) (v : Row) (a : Answer) → Rested book budget n v a → Halts budget n v
-  rested-halts budget n v a (normal e f) = stuck (λ u s. nowhere-found v (s .at) (s .fitting) f (s .first))
+  rested-halts budget n v a (normal e f) = stuck (λ rule u s. nowhere-found v (s .at) (s .fitting) f (s .first))
   rested-halts budget n v a (unfinished e m at f p) = full m
 
   large-halts : (budget n : ℕ) (v : Row) (a : Answer) → IsBody v → TooLarge book budget n v a → Halts budget n v
   large-halts budget n v a i l =
-      stuck (λ u s.
+      stuck (λ rule u s.
       let e = s .is ∙ same-spliced v i (s .at) (l .at) (s .fitting) (l .fitting) (s .first) (l .first) (s .new) (l .new) (s .writes) (l .writes) in
       let q : withinLimits (spliced v (l .at) (l .new)) ≡ true = sym (ap withinLimits e) ∙ s .within in
       let z = l .large in
@@ -171,7 +205,7 @@ module _ (book : List ℕ) (accepted : checkBook book ≡ Good) where
 
   many-halts : (budget n : ℕ) (v : Row) (a : Answer) → IsBody v → TooMany book budget n v a → Halts budget n v
   many-halts budget n v a i l =
-      stuck (λ u s.
+      stuck (λ rule u s.
       let e = same-made v i (s .at) (l .at) (s .fitting) (l .fitting) (s .first) (l .first) in
       let x = s .writes in
       let z = l .refuses in
@@ -181,10 +215,10 @@ module _ (book : List ℕ) (accepted : checkBook book ≡ Good) where
   barred-halts budget n v a i (large l) = large-halts budget n v a i l
   barred-halts budget n v a i (many l) = many-halts budget n v a i l
 
-  reached-term : (n : ℕ) (t v : Row) → IsBody t → Reaches book n t v → IsBody v
+  reached-term : (trace : List Search) (t v : Row) → IsBody t → Reaches book trace t v → IsBody v
   unfolding Reaches
-  reached-term zero t v i r = rw r at i
-  reached-term (suc n) t v i r = reached-term n (r .0) v (outcome-term t (r .0) i (r .1)) (r .2)
+  reached-term [] t v i r = rw r at i
+  reached-term (s ∷ trace) t v i r = reached-term trace (r .0) v (outcome-term (s .rule) t (r .0) i (r .1)) (r .2)
 
   -- ---- the answer at the end
   same-answer : (budget n : ℕ) (v : Row) (a c : Answer) → Rested book budget n v a → Rested book budget n v c → a ≡ c
@@ -213,19 +247,20 @@ module _ (book : List ℕ) (accepted : checkBook book ≡ Good) where
   same-refusal budget n v a c i (many x) (many y) =
       x .answer ∙ ap CannotTake (same-many v i (x .at) (y .at) (x .fitting) (y .fitting) (x .first) (y .first)) ∙ sym (y .answer)
 
-  -- two runs of which this is said are one
-  pub one-run : (budget : ℕ) (t : Row) → IsBody t → (r s : Run) → Simplified book budget t r → Simplified book budget t s → r ≡ s
-  one-run budget t i (Ended n a v) (Ended m c w) x y =
-      let e = one-end budget n m t v w i (x .0) (y .0) (x .1) (y .1) (rested-halts budget n v a (x .2)) (rested-halts budget m w c (y .2)) in
-      let q : a ≡ c = same-answer budget n v a c (x .2) (rw (e .0, e .1) (y .2)) in
-      rw (e .0, e .1, q)
-  one-run budget t i (Ended n a v) (Stopped m c) x y =
-      let e = one-end budget n m t v (y .0) i (x .0) (y .1) (x .1) (y .2) (rested-halts budget n v a (x .2)) (barred-halts budget m (y .0) c (reached-term m t (y .0) i (y .1)) (y .3)) in
-      absurd (not-both budget m (y .0) a c (rw (e .0, e .1) at (x .2)) (y .3))
-  one-run budget t i (Stopped n a) (Ended m c w) x y =
-      let e = one-end budget m n t w (x .0) i (y .0) (x .1) (y .1) (x .2) (rested-halts budget m w c (y .2)) (barred-halts budget n (x .0) a (reached-term n t (x .0) i (x .1)) (x .3)) in
-      absurd (not-both budget n (x .0) c a (rw (e .0, e .1) at (y .2)) (x .3))
-  one-run budget t i (Stopped n a) (Stopped m c) x y =
-      let e = one-end budget n m t (x .0) (y .0) i (x .1) (y .1) (x .2) (y .2) (barred-halts budget n (x .0) a (reached-term n t (x .0) i (x .1)) (x .3))
-      (barred-halts budget m (y .0) c (reached-term m t (y .0) i (y .1)) (y .3)) in
-      ap₂ Stopped (e .0) (same-refusal budget n (x .0) a c (reached-term n t (x .0) i (x .1)) (x .3) (rw (e .0, e .1) (y .3)))
+  -- two runs of which this is said end as one
+  pub one-run : (budget : ℕ) (t : Row) → IsBody t → (r s : Run) → Simplified book budget t r → Simplified book budget t s → SameEnd r s
+  one-run budget t i (Ended x k a v) (Ended y l c w) p q =
+      let e = one-end budget x y t v w i (p .0) (q .0) (p .1) (q .1) (rested-halts budget (length x) v a (p .2)) (rested-halts budget (length y) w c (q .2)) in
+      (same-answer budget (length x) v a c (p .2) (rw (e .0, e .1) (q .2)), e .2, e .1)
+  one-run budget t i (Ended x k a v) (Stopped y l c) p q =
+      let e =
+      one-end budget x y t v (q .0) i (p .0) (q .1) (p .1) (q .2) (rested-halts budget (length x) v a (p .2)) (barred-halts budget (length y) (q .0) c (reached-term y t (q .0) i (q .1)) (q .3)) in
+      not-both budget (length y) (q .0) a c (rw (e .0, e .1) at (p .2)) (q .3)
+  one-run budget t i (Stopped x k a) (Ended y l c w) p q =
+      let e =
+      one-end budget y x t w (p .0) i (q .0) (p .1) (q .1) (p .2) (rested-halts budget (length y) w c (q .2)) (barred-halts budget (length x) (p .0) a (reached-term x t (p .0) i (p .1)) (p .3)) in
+      not-both budget (length x) (p .0) c a (rw (e .0, e .1) at (q .2)) (p .3)
+  one-run budget t i (Stopped x k a) (Stopped y l c) p q =
+      let e = one-end budget x y t (p .0) (q .0) i (p .1) (q .1) (p .2) (q .2) (barred-halts budget (length x) (p .0) a (reached-term x t (p .0) i (p .1)) (p .3))
+      (barred-halts budget (length y) (q .0) c (reached-term y t (q .0) i (q .1)) (q .3)) in
+      (same-refusal budget (length x) (p .0) a c (reached-term x t (p .0) i (p .1)) (p .3) (rw (e .0, e .1) (q .3)), e .2)

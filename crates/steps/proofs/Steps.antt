@@ -1,7 +1,7 @@
 -- A step is at the lowest offset where the walk finds a rule, and leaves a term; simplifying makes as many steps as it says, and ends where it says. For every tree, whole or damaged.
 use mathlib.Core.Path.{_≡_, refl, ap, _∙_}
 use mathlib.Core.Bool.{Bool, true, false}
-use mathlib.Core.List.{List, _++_}
+use mathlib.Core.List.{List, [], _∷_, _++_}
 use mathlib.Core.Option.{Option, none, some}
 use Prim.Native.Nat.{ℕ, zero, suc, _+_, _≤_, _<_}
 use native.Mathlib.Omega.{arith}
@@ -26,8 +26,8 @@ use Rattle.steps.specs.Right.{write}
 use Rattle.steps.specs.Arguments.{withAside}
 use Rattle.steps.specs.Rewrite.{manyAside, rewritten}
 use Rattle.steps.specs.Offset.{partAt, spliced}
-use Rattle.steps.specs.Step.{Sought, Nowhere, FoundAt, Broken, orLater, seekRule, lowestOffset, Stepped, Rests, Becomes, Refused, wholeWithin, stepTaken, stepFound, step}
-use Rattle.steps.specs.Simplify.{Run, Stopped, Ended, oneMore, budgetUsed, afterStep, simplifyBy}
+use Rattle.steps.specs.Step.{Sought, Nowhere, FoundAt, Broken, orLater, seekRule, lowestOffset, searchVisits, Stepped, Rests, Becomes, Refused, wholeWithin, stepTaken, stepFound, step}
+use Rattle.steps.specs.Simplify.{Search, found, Run, Stopped, Ended, oneMore, budgetUsed, afterStep, simplifyBy}
 use Rattle.steps.proofs.RightRows.{parametersOf, accepted-right}
 use Rattle.steps.proofs.Shaped.{Shaped, formed-shaped, width-written, few-written, shaped-written, limits-within}
 use Rattle.steps.proofs.Arguments.{aside-wide, aside-shaped, aside-few, aside-is}
@@ -135,7 +135,7 @@ module _ (book : List ℕ) (accepted : checkBook book ≡ Good) (table : List �
   -- ---- a step leaves a term
   abbrev LeavesTerm : Stepped → Type 0
   LeavesTerm Rests = Unit {0}
-  LeavesTerm (Becomes u) = IsBody u
+  LeavesTerm (Becomes rule u) = IsBody u
   LeavesTerm (Refused a) = Unit {0}
 
   pub spliced-term : (t : Row) → IsBody t → (at : ℕ) → at < length (words t) → (u : Row) → Wrote u → withinLimits (spliced t at u) ≡ true → IsBody (spliced t at u)
@@ -152,25 +152,25 @@ module _ (book : List ℕ) (accepted : checkBook book ≡ Good) (table : List �
   step-leaves t i Nowhere p = tt
   step-leaves t i (FoundAt at f) p = taken (rewritten book (partAt t at) f) refl
     where
-      go : (u : Row) → rewritten book (partAt t at) f ≡ some u → (b : Bool) → withinLimits (spliced t at u) ≡ b → LeavesTerm (pick b (Becomes (spliced t at u)) (Refused Over))
+      go : (u : Row) → rewritten book (partAt t at) f ≡ some u → (b : Bool) → withinLimits (spliced t at u) ≡ b → LeavesTerm (pick b (Becomes (f .number) (spliced t at u)) (Refused Over))
       go u w true e = spliced-term t i at (p .1 .inside) u (found-writes (partAt t at) (part-term t i at (p .1 .inside)) f (p .0) (p .1 .here) u w) e
       go u w false e = tt
 
-      taken : (o : Option Row) → rewritten book (partAt t at) f ≡ o → LeavesTerm (stepTaken t at (manyAside book (partAt t at) f) o)
+      taken : (o : Option Row) → rewritten book (partAt t at) f ≡ o → LeavesTerm (stepTaken t at (f .number) (manyAside book (partAt t at) f) o)
       taken none w = tt
       taken (some u) w = go u w (withinLimits (spliced t at u)) refl
   step-leaves t i (Broken address) p = tt
 
-  pub step-term : (t u : Row) → IsBody t → step book table t ≡ Becomes u → IsBody u
+  pub step-term : (rule : ℕ) (t u : Row) → IsBody t → step book table t ≡ Becomes rule u → IsBody u
   unfolding step
-  step-term t u i e = rw e at (step-leaves t i (lowestOffset book table t) (lowest-offset-is book table t))
+  step-term rule t u i e = rw e at (step-leaves t i (lowestOffset book table t) (lowest-offset-is book table t))
 
 -- ---- simplifying
 module _ (book table : List ℕ) where
-  -- so many steps lead from a term to another
-  unfoldable pub StepsTo : ℕ → Row → Row → Type 0
-  StepsTo zero t v = t ≡ v
-  StepsTo (suc n) t v = (u : Row) × (step book table t ≡ Becomes u) × StepsTo n u v
+  -- the steps of these searches lead from a term to another
+  unfoldable pub StepsTo : List Search → Row → Row → Type 0
+  StepsTo [] t v = t ≡ v
+  StepsTo (s ∷ trace) t v = (u : Row) × (step book table t ≡ Becomes (s .rule) u) × (s .visits ≡ searchVisits book table t) × StepsTo trace u v
 
   -- how it ends: no offset has a rule, or the budget is used and one still has
   pub data EndsAs (budget n : ℕ) (v : Row) (a : Answer) : Type 0 where
@@ -186,18 +186,18 @@ module _ (book table : List ℕ) where
         → StopsAs budget n v a
 
   abbrev pub RunIs : ℕ → Row → Run → Type 0
-  RunIs budget t (Stopped n a) = (v : Row) × StepsTo n t v × (n ≤ budget) × StopsAs budget n v a
-  RunIs budget t (Ended n a v) = StepsTo n t v × (n ≤ budget) × EndsAs budget n v a
+  RunIs budget t (Stopped trace last a) = (v : Row) × StepsTo trace t v × (length trace ≤ budget) × StopsAs budget (length trace) v a × (last ≡ searchVisits book table v)
+  RunIs budget t (Ended trace last a v) = StepsTo trace t v × (length trace ≤ budget) × EndsAs budget (length trace) v a × (last ≡ searchVisits book table v)
 
-  last-look : (t : Row) (s : Sought) → lowestOffset book table t ≡ s → RunIs 0 t (budgetUsed t s)
+  last-look : (t : Row) (s : Sought) → lowestOffset book table t ≡ s → RunIs 0 t (budgetUsed t (searchVisits book table t) s)
   unfolding StepsTo
-  last-look t Nowhere e = (refl, omega arith, rests refl e)
-  last-look t (FoundAt at f) e = (refl, omega arith, used refl refl at f e)
-  last-look t (Broken address) e = (t, refl, omega arith, broken address refl e)
+  last-look t Nowhere e = (refl, omega arith, rests refl e, refl)
+  last-look t (FoundAt at f) e = (refl, omega arith, used refl refl at f e, refl)
+  last-look t (Broken address) e = (t, refl, omega arith, broken address refl e, refl)
 
   abbrev StepWhy : ℕ → Row → Stepped → Type 0
   StepWhy budget t Rests = lowestOffset book table t ≡ Nowhere
-  StepWhy budget t (Becomes u) = Unit {0}
+  StepWhy budget t (Becomes rule u) = Unit {0}
   StepWhy budget t (Refused a) = StopsAs (suc budget) 0 t a
 
   found-why : (budget : ℕ) (t : Row) (s : Sought) → lowestOffset book table t ≡ s → StepWhy budget t (stepFound book t s)
@@ -205,11 +205,11 @@ module _ (book table : List ℕ) where
   found-why budget t Nowhere e = e
   found-why budget t (FoundAt at f) e = taken (rewritten book (partAt t at) f) refl
     where
-      go : (u : Row) → rewritten book (partAt t at) f ≡ some u → (b : Bool) → withinLimits (spliced t at u) ≡ b → StepWhy budget t (pick b (Becomes (spliced t at u)) (Refused Over))
+      go : (u : Row) → rewritten book (partAt t at) f ≡ some u → (b : Bool) → withinLimits (spliced t at u) ≡ b → StepWhy budget t (pick b (Becomes (f .number) (spliced t at u)) (Refused Over))
       go u w true q = tt
       go u w false q = over refl (omega arith) at f e u w q
 
-      taken : (o : Option Row) → rewritten book (partAt t at) f ≡ o → StepWhy budget t (stepTaken t at (manyAside book (partAt t at) f) o)
+      taken : (o : Option Row) → rewritten book (partAt t at) f ≡ o → StepWhy budget t (stepTaken t at (f .number) (manyAside book (partAt t at) f) o)
       taken none w = cannot at f refl (omega arith) e w
       taken (some u) w = go u w (withinLimits (spliced t at u)) refl
   found-why budget t (Broken address) e = broken address refl e
@@ -227,25 +227,26 @@ module _ (book table : List ℕ) where
   stops-more budget n v a (cannot at f e m q w) = cannot at f e (omega (arith, m)) q w
   stops-more budget n v a (over e m at f q u w z) = over e (omega (arith, m)) at f q u w z
 
-  one-step-more : (budget : ℕ) (t u : Row) → step book table t ≡ Becomes u → (r : Run) → RunIs budget u r → RunIs (suc budget) t (oneMore r)
+  one-step-more : (budget rule : ℕ) (t u : Row) → step book table t ≡ Becomes rule u → (r : Run) → RunIs budget u r → RunIs (suc budget) t (oneMore (found rule (searchVisits book table t)) r)
   unfolding StepsTo
-  one-step-more budget t u e (Stopped n a) r = (r .0, (u, e, r .1), omega (arith, r .2), stops-more budget n (r .0) a (r .3))
-  one-step-more budget t u e (Ended n a v) r = ((u, e, r .0), omega (arith, r .1), ends-more budget n v a (r .2))
+  one-step-more budget rule t u e (Stopped trace last a) r = (r .0, (u, e, refl, r .1), omega (arith, r .2), stops-more budget (length trace) (r .0) a (r .3), r .4)
+  one-step-more budget rule t u e (Ended trace last a v) r = ((u, e, refl, r .0), omega (arith, r .1), ends-more budget (length trace) v a (r .2), r .3)
 
-  after-step : (budget : ℕ) (more : Row → Run) → ((u : Row) → RunIs budget u (more u)) → (t : Row) (s : Stepped) → step book table t ≡ s → StepWhy budget t s → RunIs (suc budget) t (afterStep more t s)
+  after-step : (budget : ℕ) (more : Row → Run) → ((u : Row) → RunIs budget u (more u)) → (t : Row) (s : Stepped) → step book table t ≡ s → StepWhy budget t s
+      → RunIs (suc budget) t (afterStep more t (searchVisits book table t) s)
   unfolding StepsTo
-  after-step budget more ih t Rests e w = (refl, omega arith, rests refl w)
-  after-step budget more ih t (Becomes u) e w = one-step-more budget t u e (more u) (ih u)
-  after-step budget more ih t (Refused a) e w = (t, refl, omega arith, w)
+  after-step budget more ih t Rests e w = (refl, omega arith, rests refl w, refl)
+  after-step budget more ih t (Becomes rule u) e w = one-step-more budget rule t u e (more u) (ih u)
+  after-step budget more ih t (Refused a) e w = (t, refl, omega arith, w, refl)
 
-  -- the steps counted are steps, no more than the budget, and simplifying ends as it says
+  -- the searches of the trace are those of its steps, no more than the budget, and simplifying ends as it says
   pub run-is : (budget : ℕ) (t : Row) → RunIs budget t (simplifyBy book table budget t)
   unfolding simplifyBy
   run-is zero t = last-look t (lowestOffset book table t) refl
   run-is (suc budget) t = after-step budget (simplifyBy book table budget) (λ u. run-is budget u) t (step book table t) refl (step-why budget t)
 
   -- every term on the way is a term
-  pub steps-term : checkBook book ≡ Good → (n : ℕ) (t v : Row) → IsBody t → StepsTo n t v → IsBody v
+  pub steps-term : checkBook book ≡ Good → (trace : List Search) (t v : Row) → IsBody t → StepsTo trace t v → IsBody v
   unfolding StepsTo
-  steps-term g zero t v i s = rw s at i
-  steps-term g (suc n) t v i s = steps-term g n (s .0) v (step-term book g table t (s .0) i (s .1)) (s .2)
+  steps-term g [] t v i s = rw s at i
+  steps-term g (x ∷ trace) t v i s = steps-term g trace (s .0) v (step-term book g table (x .rule) t (s .0) i (s .1)) (s .3)

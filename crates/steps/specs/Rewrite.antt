@@ -17,7 +17,8 @@ use Rattle.fit.specs.Match.{treeOf, leftIn}
 use Rattle.fit.specs.Lowest.{Fitting, asideO}
 use Rattle.fit.specs.Front.{rootArguments, asideArguments}
 use Rattle.fit.specs.Build.{Built, refused, limited, buildAnswer, buildWords}
-use Rattle.walk.specs.Walk.{Walked, NoneFits, RuleFits, DamagedAt, walk, bookFits}
+use Rattle.walk.specs.Walk.{Walked, NoneFits, RuleFits, DamagedAt, walk, visits, bookFits}
+use Rattle.walk.specs.ByTree.{termVisits}
 use Rattle.steps.specs.Right.{write}
 use Rattle.steps.specs.Arguments.{withAside}
 
@@ -66,13 +67,22 @@ rootAnswer room book table ws = buildAnswer room (rewriteRoot book table ws)
 abbrev pub rootWords : ℕ → List ℕ → List ℕ → List ℕ → List ℕ
 rootWords room book table ws = buildWords room (rewriteRoot book table ws)
 
+-- the nodes that its one walk visited, "and zero before any walk"
+abbrev pub soundVisits : List ℕ → List ℕ → Accepted → ℕ
+soundVisits table ws Sound = termVisits (check termLimits ws) (visits table (treeOf ws))
+soundVisits table ws (Refused a) = 0
+
+unfoldable pub rootVisits : (book tree term : List ℕ) → ℕ
+rootVisits book table ws = soundVisits table ws (accept book)
+
 -- ---- all that comes back
 pub record RewriteRootOutcome : Type 0 where
   pub said : Answered
+  pub visits : ℕ
   pub out : List ℕ
 
-abbrev pub rewriteRootCame : Answered → List ℕ → RewriteRootOutcome
-rewriteRootCame said out = record { said = said; out = out }
+abbrev pub rewriteRootCame : Answered → ℕ → List ℕ → RewriteRootOutcome
+rewriteRootCame said visits out = record { said = said; visits = visits; out = out }
 
 unfoldable pub rewriteRootGives : (book tree term : List ℕ) (room : ℕ) → RewriteRootOutcome
-rewriteRootGives book tree term room = rewriteRootCame (answered (rootAnswer room book tree term)) (rootWords room book tree term)
+rewriteRootGives book tree term room = rewriteRootCame (answered (rootAnswer room book tree term)) (rootVisits book tree term) (rootWords room book tree term)

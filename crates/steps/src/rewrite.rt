@@ -14,22 +14,52 @@ use term::answer::Answer;
 use term::check::MOST_WORDS;
 use term::lent::clear;
 
-// Rewrites a term at its root by the rule that the tree finds.
-pub fn rewrite_root(book: &[u32], tree: &[u32], term: &[u32], out: &mut [u32]) -> Answer
-    ensures { λ r. ⌜ rewriteRootCame (answered r) (now (out .exit)) ≡ rewriteRootGives (now (book .entry)) (now (tree .entry)) (now (term .entry)) (length (now (out .entry))) ⌝ }
+// The visits where nothing was walked.
+const NO_VISITS: u64 = 0;
+
+// The answer, and how many nodes the walk visited.
+pub struct Rewritten {
+    pub answer: Answer,
+    pub visits: u64,
+}
+
+// Rewrites a term at its root by the rule that the tree finds, and counts the nodes visited.
+pub fn rewrite_root(book: &[u32], tree: &[u32], term: &[u32], out: &mut [u32]) -> Rewritten
+    ensures { λ r. ⌜ rewriteRootCame (answered (r .answer)) (r .visits) (now (out .exit)) ≡ rewriteRootGives (now (book .entry)) (now (tree .entry)) (now (term .entry)) (length (now (out .entry))) ⌝ }
 {
     clear(out);
     if let Accepted::Refused(answer) = ask(book, term) {
-        return answer;
+        return Rewritten {
+            answer,
+            visits: NO_VISITS,
+        };
     }
     let mut bodies = [0u32; BODIES];
     let mut lengths = [0u32; LENGTHS];
     let mut area = [0u32; MOST_WORDS];
-    match rewrite_at(book, tree, term, &mut bodies, &mut lengths, &mut area) {
-        Rewrote::None => Answer::NoFit,
-        Rewrote::Damaged(at) => Answer::Damaged(at),
-        Rewrote::Over => Answer::Over,
-        Rewrote::Wrote(n) => give(Answer::Done, &area[..n], out),
-        Rewrote::CannotTake(n) => Answer::CannotTake(n),
+    let part = rewrite_at(book, tree, term, &mut bodies, &mut lengths, &mut area);
+    let visits = part.visits;
+    let wrote = part.wrote;
+    match wrote {
+        Rewrote::None => Rewritten {
+            answer: Answer::NoFit,
+            visits,
+        },
+        Rewrote::Damaged(at) => Rewritten {
+            answer: Answer::Damaged(at),
+            visits,
+        },
+        Rewrote::Over => Rewritten {
+            answer: Answer::Over,
+            visits,
+        },
+        Rewrote::Wrote(n) => Rewritten {
+            answer: give(Answer::Done, &area[..n], out),
+            visits,
+        },
+        Rewrote::CannotTake(n) => Rewritten {
+            answer: Answer::CannotTake(n),
+            visits,
+        },
     }
 }

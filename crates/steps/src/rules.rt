@@ -7,8 +7,8 @@ ghost use Rattle.term.specs.Check.{check, termLimits};
 ghost use Rattle.book.specs.Accept.{accept};
 ghost use Rattle.fit.specs.Build.{startOf};
 ghost use Rattle.walk.specs.told.State.{partFrom, Parted};
-ghost use Rattle.walk.specs.told.WithBook.{bookWalk};
-ghost use Rattle.steps.specs.told.Operations.{GoodBook, Cleared, asked, RuleWritten, RewriteTold};
+ghost use Rattle.walk.specs.told.WithBook.{bookWalk, bookVisits};
+ghost use Rattle.steps.specs.told.Operations.{GoodBook, Cleared, asked, RuleWritten, RewriteTold, endsSearch};
 use crate::aside::write_front;
 use book::accept::Accepted;
 use book::accept::accept_book;
@@ -36,6 +36,25 @@ pub enum Rewrote {
     Damaged(usize),
     CannotTake(u32),
     Over,
+}
+
+// What became of a part, and how many nodes its walk visited.
+pub struct Rewriting {
+    pub wrote: Rewrote,
+    pub visits: u64,
+}
+
+// Whether a search ends at the part: the walk found a rule there, or the tree is damaged.
+pub fn ends_search(wrote: Rewrote) -> bool
+    ensures { λ r. ⌜ r ≡ endsSearch wrote ⌝ }
+{
+    match wrote {
+        Rewrote::None => false,
+        Rewrote::Wrote(_) => true,
+        Rewrote::Damaged(_) => true,
+        Rewrote::CannotTake(_) => true,
+        Rewrote::Over => true,
+    }
 }
 
 // Asks of the book, and then of the term.
@@ -85,7 +104,7 @@ fn clear_used(bodies: &mut [u32], lengths: &mut [u32])
     clear(lengths);
 }
 
-// Rewrites the part that the words begin with. The bodies and lengths are cleared before and after.
+// Rewrites the part that the words begin with, and counts the nodes visited. The bodies and lengths are cleared before and after.
 pub fn rewrite_at(
     book: &[u32],
     tree: &[u32],
@@ -93,18 +112,27 @@ pub fn rewrite_at(
     bodies: &mut [u32],
     lengths: &mut [u32],
     out: &mut [u32],
-) -> Rewrote
+) -> Rewriting
     requires { ⌜ GoodBook (now book) × Parted (now part) × (0 < length (now part)) × Cleared (now bodies) (now lengths) × (length (now out) ≡ 4096) ⌝ }
-    ensures { λ r. ⌜ RewriteTold (now (book .entry)) (partFrom (now (part .entry)) 0) (bookWalk (now (book .entry)) (now (tree .entry)) (now (part .entry))) (now (out .exit)) r
-        × Cleared (now (bodies .exit)) (now (lengths .exit)) ⌝ }
+    ensures { λ r. ⌜ RewriteTold (now (book .entry)) (partFrom (now (part .entry)) 0) (bookWalk (now (book .entry)) (now (tree .entry)) (now (part .entry))) (now (out .exit)) (r .wrote)
+        × Cleared (now (bodies .exit)) (now (lengths .exit)) × (r .visits ≡ bookVisits (now (tree .entry)) (now (part .entry))) ⌝ }
 {
-    match walk_book(book, tree, part, bodies, lengths) {
-        BookMatch::None => Rewrote::None,
-        BookMatch::Damaged(at) => Rewrote::Damaged(at),
+    let walk = walk_book(book, tree, part, bodies, lengths);
+    let visits = walk.visits as u64;
+    let found = walk.found;
+    match found {
+        BookMatch::None => Rewriting {
+            wrote: Rewrote::None,
+            visits,
+        },
+        BookMatch::Damaged(at) => Rewriting {
+            wrote: Rewrote::Damaged(at),
+            visits,
+        },
         BookMatch::Rule(number) => {
             let wrote = write_rule(book, number, part, bodies, lengths, out);
             clear_used(bodies, lengths);
-            wrote
+            Rewriting { wrote, visits }
         }
     }
 }

@@ -1,7 +1,7 @@
 -- What the operations tell, one on the other: a rule written, a part rewritten, the lowest offset, a step in the work area, a run.
 use Prim.Native.Nat.{ℕ, _+_, _≤_}
 use mathlib.Core.Path.{_≡_}
-use mathlib.Core.Bool.{true, false}
+use mathlib.Core.Bool.{Bool, true, false}
 use mathlib.Core.List.{List}
 use mathlib.Core.Option.{Option, none, some}
 use lib.Dec.{leb}
@@ -27,12 +27,10 @@ use Rattle.steps.specs.Offset.{partAt}
 use Rattle.steps.specs.Rewrite.{manyAside, rewritten}
 use Rattle.steps.specs.told.Told.{RightRow}
 use Rattle.steps.specs.told.RightWalk.{BodiesStand}
-use Rattle.steps.specs.Step.{Sought, Nowhere, FoundAt, Broken, lowestOffset, Stepped, Rests, Becomes, Refused}
-use Rattle.steps.specs.Simplify.{Run, Stopped, Ended, budgetUsed}
+use Rattle.steps.specs.Step.{Sought, Nowhere, FoundAt, Broken, lowestOffset, searchVisits, Stepped, Rests, Becomes, Refused}
+use Rattle.steps.specs.Simplify.{Run, Stopped, Ended, budgetUsed, allVisits}
 use Rattle.steps.specs.declared.rules.Rewrote.{Rewrote}
 use Rattle.steps.specs.declared.rules.Rewrote.the-variants as rewrote
-use Rattle.steps.specs.declared.simplify.Lowest.{Lowest}
-use Rattle.steps.specs.declared.simplify.Lowest.the-variants as lowest
 use Rattle.steps.specs.declared.simplify.Moved.{Moved}
 use Rattle.steps.specs.declared.simplify.Moved.the-variants as moved
 use Rattle.steps.specs.declared.simplify.Ran.{Ran}
@@ -85,45 +83,54 @@ RewriteTold book t (DamagedAt at) out r = r ≡ rewrote.Damaged at
 abbrev pub givenAnswer : ℕ → List ℕ → Answer → Answer
 givenAnswer room ws a = pick (leb (length ws) room) a answer.Short
 
--- ---- the lowest offset with a rule, and what the rule writes there
-abbrev pub FoundTold : ℕ → Row → List ℕ → Lowest → Type 0
-FoundTold at u new lowest.Nowhere = ⊥
-FoundTold at u new (lowest.At a n) = (a ≡ at) × (withinLimits u ≡ true) × (n ≡ length (words u)) × (n ≤ 4096) × (take n new ≡ words u)
-FoundTold at u new (lowest.CannotTake n) = ⊥
-FoundTold at u new lowest.Over = withinLimits u ≡ false
-FoundTold at u new (lowest.Broken address) = ⊥
+-- ---- the lowest offset with a rule, and what became of the part there
+unfoldable pub LowestTold : List ℕ → Row → Sought → List ℕ → ℕ → Rewrote → Type 0
+LowestTold book t Nowhere new at r = r ≡ rewrote.None
+LowestTold book t (FoundAt a f) new at r = (at ≡ a) × TakenTold (manyAside book (partAt t a) f) (rewritten book (partAt t a) f) new r
+LowestTold book t (Broken address) new at r = r ≡ rewrote.Damaged address
 
-abbrev pub FoundTaken : ℕ → ℕ → Option Row → List ℕ → Lowest → Type 0
-FoundTaken at n none new r = r ≡ lowest.CannotTake n
-FoundTaken at n (some u) new r = FoundTold at u new r
-
-unfoldable pub LowestTold : List ℕ → Row → Sought → List ℕ → Lowest → Type 0
-LowestTold book t Nowhere new r = r ≡ lowest.Nowhere
-LowestTold book t (FoundAt at f) new r = FoundTaken at (manyAside book (partAt t at) f) (rewritten book (partAt t at) f) new r
-LowestTold book t (Broken address) new r = r ≡ lowest.Broken address
+-- whether a search ends at the part
+abbrev pub endsSearch : Rewrote → Bool
+endsSearch rewrote.None = false
+endsSearch (rewrote.Wrote n) = true
+endsSearch (rewrote.Damaged at) = true
+endsSearch (rewrote.CannotTake n) = true
+endsSearch rewrote.Over = true
 
 -- ---- a part replaced in the work area, and the whole checked
 abbrev pub ReplaceTold : List ℕ → List ℕ → Moved → Type 0
-ReplaceTold ws area moved.Rests = ⊥
 ReplaceTold ws area (moved.To size) = (check termLimits ws ≡ Good) × (size ≤ 4096) × (take size area ≡ ws)
-ReplaceTold ws area (moved.Refused a) = (a ≡ answer.Over) × (check termLimits ws ≡ Good → ⊥)
+ReplaceTold ws area (moved.Ends a size) = (a ≡ answer.Over) × (size ≡ 0) × (check termLimits ws ≡ Good → ⊥)
 
--- a step in the work area
-unfoldable pub MoveTold : Stepped → List ℕ → List ℕ → Moved → Type 0
-MoveTold Rests before area r = (r ≡ moved.Rests) × (area ≡ before)
-MoveTold (Becomes u) before area r = (size : ℕ) × (r ≡ moved.To size) × (size ≤ 4096) × (take size area ≡ words u)
-MoveTold (Refused a) before area r = r ≡ moved.Refused a
+-- a step in the work area, whose term has so many words
+unfoldable pub MoveTold : Stepped → ℕ → List ℕ → List ℕ → Moved → Type 0
+MoveTold Rests size before area r = (r ≡ moved.Ends answer.Done size) × (area ≡ before)
+MoveTold (Becomes rule u) size before area r = (n : ℕ) × (r ≡ moved.To n) × (n ≤ 4096) × (take n area ≡ words u)
+MoveTold (Refused a) size before area r = r ≡ moved.Ends a 0
 
--- ---- how repeating steps ends: the term so far stands in the work area
-abbrev pub RanTold : Run → Ran → List ℕ → Type 0
-RanTold (Stopped n a) r area = (r .answer ≡ a) × (r .steps ≡ n) × (r .size ≡ 0)
-RanTold (Ended n a t) r area = (r .answer ≡ a) × (r .steps ≡ n) × (r .size ≤ length area) × (take (r .size) area ≡ words t)
+-- ---- how repeating steps ends, with so many steps and visits before: the term so far stands in the work area
+abbrev pub RanTold : (steps visits : ℕ) → Run → Ran → List ℕ → Type 0
+RanTold n v (Stopped trace last a) r area = (r .answer ≡ a) × (r .steps ≡ n + length trace) × (r .visits ≡ v + (allVisits trace + last)) × (r .size ≡ 0)
+RanTold n v (Ended trace last a t) r area =
+    (r .answer ≡ a) × (r .steps ≡ n + length trace) × (r .visits ≡ v + (allVisits trace + last)) × (r .size ≤ length area) × (take (r .size) area ≡ words t)
 
--- a run with so many steps before it
-abbrev pub countedFrom : ℕ → Run → Run
-countedFrom n (Stopped m a) = Stopped (n + m) a
-countedFrom n (Ended m a t) = Ended (n + m) a t
+-- the budget is used: the answer and how many words are left, by what the last search found
+abbrev pub usedAnswer : Rewrote → Answer
+usedAnswer rewrote.None = answer.Done
+usedAnswer (rewrote.Wrote n) = answer.BudgetUsed
+usedAnswer (rewrote.Damaged at) = answer.Damaged at
+usedAnswer (rewrote.CannotTake n) = answer.BudgetUsed
+usedAnswer rewrote.Over = answer.BudgetUsed
 
--- the budget is used after so many steps
-abbrev pub lookedAfter : List ℕ → List ℕ → ℕ → Row → Run
-lookedAfter book table n t = countedFrom n (budgetUsed t (lowestOffset book table t))
+abbrev pub usedSize : ℕ → Rewrote → ℕ
+usedSize size rewrote.None = size
+usedSize size (rewrote.Wrote n) = size
+usedSize size (rewrote.Damaged at) = 0
+usedSize size (rewrote.CannotTake n) = size
+usedSize size rewrote.Over = size
+
+abbrev pub UsedTold : Rewrote → (steps visits size : ℕ) → Ran → Type 0
+UsedTold w steps visits size r = (r .answer ≡ usedAnswer w) × (r .steps ≡ steps) × (r .visits ≡ visits) × (r .size ≡ usedSize size w)
+
+abbrev pub lookedAt : List ℕ → List ℕ → Row → Run
+lookedAt book table t = budgetUsed t (searchVisits book table t) (lowestOffset book table t)

@@ -14,7 +14,7 @@ use Rattle.steps.proofs.simplify.simplify.Statement.{statement}
 use Rattle.steps.proofs.simplify.simplify.Tie as tie
 
 returns : tie.Need-returns
-returns c = let s = c .before .before .before .before .before .before .before .before .before .before .before .before .args in simplify-came (s .book .now) (s .tree .now) (s .term .now) (s .budget) (length (s .out .now)) _ _ (simplify-refused (length (s .out .now)) (s .book .now) (s .tree .now) (s .term .now) (s .budget) _ _ _ (sym (c .before .before .before .ask .ensures) ∙ c .before .answer .given .1) refl refl (c .before .before .before .before .before .before .clear .ensures))
+returns c = let s = c .before .before .before .before .before .before .before .before .before .before .before .before .args in simplify-came (s .book .now) (s .tree .now) (s .term .now) (s .budget) (length (s .out .now)) _ _ (simplify-refused (length (s .out .now)) (s .book .now) (s .tree .now) (s .term .now) (s .budget) _ _ _ (sym (c .before .before .before .ask .ensures) ∙ c .before .answer .given .1) refl refl refl (c .before .before .before .before .before .before .clear .ensures))
 
 run-requires : tie.Need-run-requires
 run-requires c κs = let s = c .before .before .before .before .before .before .before .before .before .before .before .before .before .before .args in let e = sym (c .before .before .before .before .before .ask .ensures) ∙ c .before .before .before .enum-told .given .1 in (good-book (s .book .now) (s .term .now) e, is-term (s .book .now) (s .term .now) e, refl, (refl, refl))
@@ -38,7 +38,7 @@ returns-2 : tie.Need-returns-2
 returns-2 c =
     let s = c .before .before .before .before .before .before .before .before .before .before .before .before .before .before .before .before .before .before .before .before .before .before .before .args in
     simplify-came (s .book .now) (s .tree .now) (s .term .now) (s .budget) (length (s .out .now)) _ _
-    (simplify-run (length (s .out .now)) (s .book .now) (s .tree .now) (s .term .now) (s .budget) _ _ (sym (c .before .before .before .before .before .before .before .before .before .before .before .before .before .before .ask .ensures) ∙ c .before .before .before .before .before .before .before .before .before .before .before .before .enum-told .given .1) (run-given (length (s .out .now)) (simplifyBy (s .book .now) (s .tree .now) (s .budget) (treeOf (s .term .now))) _ _ (c .before .before .before .before .before .before .before .before .run .ensures) _ _ (rw (c .before .before .before .before .before .before .before .before .before .before .before .before .before .before .before .before .before .clear .kept .0) at (c .before .before .give .ensures)) refl))
+    (simplify-run (length (s .out .now)) (s .book .now) (s .tree .now) (s .term .now) (s .budget) _ _ (sym (c .before .before .before .before .before .before .before .before .before .before .before .before .before .before .ask .ensures) ∙ c .before .before .before .before .before .before .before .before .before .before .before .before .enum-told .given .1) (run-given (length (s .out .now)) (simplifyBy (s .book .now) (s .tree .now) (s .budget) (treeOf (s .term .now))) _ _ (c .before .before .before .before .before .before .before .before .run .ensures) _ _ (rw (c .before .before .before .before .before .before .before .before .before .before .before .before .before .before .before .before .before .clear .kept .0) at (c .before .before .give .ensures)) refl refl))
 
 pub simplify-spec : {M : Type 1} → statement M
 simplify-spec =
