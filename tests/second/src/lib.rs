@@ -1,5 +1,5 @@
 //! An independent second program for document 01 (01-scope.md) and for the
-//! requests E1 and E2 of document 02 (02-change-requests.md).
+//! requests E1, E2 and E7 of document 02 (02-change-requests.md).
 //!
 //! One module per subject; the public operations are gathered here.
 

@@ -4,7 +4,7 @@ use crate::answer::{Answer, TOO_SHORT};
 use crate::book;
 use crate::compile::tree_of;
 use crate::fit::checked;
-use crate::simplify::simplify_checked;
+use crate::simplify::{simplify_checked, Done};
 use crate::text::{take_book, take_term_line, words_text, Lines};
 
 pub const BUDGET: u16 = 1_000;
@@ -35,9 +35,10 @@ fn report(input: &[u8]) -> Result<String, Answer> {
 
     let mut text = format!("book=1\nrules={}\ntree={}\n", book.rules.len(), tree.len());
     for (n, term) in terms.iter().enumerate() {
-        let mut steps = 0;
+        let mut done = Done::default();
         let result =
-            checked(term).and_then(|term| simplify_checked(&book, &tree, term, BUDGET, &mut steps));
+            checked(term).and_then(|term| simplify_checked(&book, &tree, term, BUDGET, &mut done));
+        let steps = done.steps;
         let (answer, result) = match result {
             Ok((answer, result)) => (answer, words_text(&result)),
             Err(answer) => (answer.number, "-".to_string()),

@@ -39,70 +39,86 @@ fn rewritten(book: &Book, term: &Laid, at: usize, found: &Found) -> Result<Vec<u
     Ok(new)
 }
 
-pub fn rewrite_root(book: &[u32], tree: &[u32], term: &[u32], out: &mut [u32]) -> Answer {
+/// Beside the answer, the nodes visited.
+pub fn rewrite_root(book: &[u32], tree: &[u32], term: &[u32], out: &mut [u32]) -> (Answer, u64) {
     out.fill(0);
-    of((|| {
+    let mut visits = 0;
+    let answer = of((|| {
         let book = book::read(book)?;
         let term = checked(term)?;
         check_length(tree)?;
-        let found = walk(tree, &term, 0, Some(&book))?.ok_or(Answer::new(NO_RULE_FITS, 0))?;
+        let found = walk(tree, &term, 0, Some(&book), &mut visits)?;
+        let found = found.ok_or(Answer::new(NO_RULE_FITS, 0))?;
         give(&rewritten(&book, &term, 0, &found)?, out)
-    })())
+    })());
+    (answer, visits)
+}
+
+/// What a run has done so far.
+#[derive(Clone, Copy, Debug, Default, PartialEq, Eq)]
+pub struct Done {
+    /// The steps completed.
+    pub steps: u32,
+    /// The nodes visited by all walks of all searches.
+    pub visits: u64,
 }
 
 /// The lowest offset where the walk finds a rule.
-fn lowest(book: &Book, tree: &[u32], term: &Laid) -> Result<Option<(usize, Found)>, Answer> {
+fn lowest(
+    book: &Book,
+    tree: &[u32],
+    term: &Laid,
+    visits: &mut u64,
+) -> Result<Option<(usize, Found)>, Answer> {
     for at in 0..term.len() {
-        if let Some(found) = walk(tree, term, at, Some(book))? {
+        if let Some(found) = walk(tree, term, at, Some(book), visits)? {
             return Ok(Some((at, found)));
         }
     }
     Ok(None)
 }
 
-/// Simplifies a checked term. `steps` counts the steps completed; the answer
-/// is 0 or 2 with the term so far.
+/// Simplifies a checked term; `done` counts, also where it is refused. The
+/// answer is 0 or 2 with the term so far.
 pub fn simplify_checked(
     book: &Book,
     tree: &[u32],
     term: Laid,
     budget: u16,
-    steps: &mut u32,
+    done: &mut Done,
 ) -> Result<(u32, Vec<u32>), Answer> {
     let mut term = term;
     loop {
-        let Some((at, found)) = lowest(book, tree, &term)? else {
+        let Some((at, found)) = lowest(book, tree, &term, &mut done.visits)? else {
             return Ok((0, term.words));
         };
-        if *steps == u32::from(budget) {
+        if done.steps == u32::from(budget) {
             return Ok((BUDGET_USED, term.words));
         }
         term = Laid::of(&rewritten(book, &term, at, &found)?);
-        *steps += 1;
+        done.steps += 1;
     }
 }
 
+/// Beside the answer, the steps completed and the nodes visited.
 pub fn simplify(
     book: &[u32],
     tree: &[u32],
     term: &[u32],
     budget: u16,
     out: &mut [u32],
-) -> (Answer, u32) {
+) -> (Answer, u32, u64) {
     out.fill(0);
-    let mut steps = 0;
+    let mut done = Done::default();
     let mut number = 0;
     let answer = of((|| {
         let book = book::read(book)?;
         let term = checked(term)?;
         check_length(tree)?;
-        let (reached, result) = simplify_checked(&book, tree, term, budget, &mut steps)?;
+        let (reached, result) = simplify_checked(&book, tree, term, budget, &mut done)?;
         number = reached;
         give(&result, out)
     })());
-    if answer == Answer::DONE {
-        (Answer::new(number, 0), steps)
-    } else {
-        (answer, steps)
-    }
+    let answer = if answer == Answer::DONE { Answer::new(number, 0) } else { answer };
+    (answer, done.steps, done.visits)
 }

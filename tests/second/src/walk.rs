@@ -51,18 +51,21 @@ pub fn check_length(tree: &[u32]) -> Result<(), Answer> {
 }
 
 /// Walks the tree over the part of the term that begins at `start`. The tree's
-/// length was judged before. No rule: None.
+/// length was judged before. No rule: None. Each node visited, the last one or
+/// the damaged one included, is added to `visits`.
 pub fn walk(
     tree: &[u32],
     term: &Laid,
     start: usize,
     book: Option<&Book>,
+    visits: &mut u64,
 ) -> Result<Option<Found>, Answer> {
     let root = Place { at: start, d: 0, entered: false };
     let mut walk = Walk { tree, term, book, places: vec![root] };
     let mut node = 0;
     // Addresses only grow, so this ends.
     loop {
+        *visits += 1;
         match walk.step(node) {
             Ok(Next::Go(to)) => node = to,
             Ok(Next::Stop(found)) => return Ok(found),
@@ -224,23 +227,24 @@ impl Walk<'_> {
 }
 
 /// The answer is 11, 14, 1, 13 or 0; the rule and the number of arguments set
-/// aside are 0 unless it is 0.
+/// aside are 0 unless it is 0. Last come the nodes visited.
 pub fn match_tree(
     tree: &[u32],
     term: &[u32],
     bodies: &mut [u32],
     lengths: &mut [u32; 16],
-) -> (Answer, u32, u32) {
+) -> (Answer, u32, u32, u64) {
     bodies.fill(0);
     lengths.fill(0);
-    let (mut rule, mut aside) = (0, 0);
+    let (mut rule, mut aside, mut visits) = (0, 0, 0);
     let answer = of((|| {
         let term = checked(term)?;
         check_length(tree)?;
-        let found = walk(tree, &term, 0, None)?.ok_or(Answer::new(NO_RULE_FITS, 0))?;
+        let found = walk(tree, &term, 0, None, &mut visits)?;
+        let found = found.ok_or(Answer::new(NO_RULE_FITS, 0))?;
         give_bodies(&found.bodies, bodies, lengths)?;
         (rule, aside) = (found.rule as u32, found.aside);
         Ok(())
     })());
-    (answer, rule, aside)
+    (answer, rule, aside, visits)
 }

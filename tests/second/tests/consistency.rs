@@ -1,12 +1,15 @@
 //! The operations against each other, and against plainer definitions, on
 //! random inputs. SECOND_ROUNDS multiplies the number of rounds.
 
+mod without;
+
 use second::book;
 use second::gen;
 use second::rng::Rng;
 use second::term::Laid;
 use second::words::*;
 use second::*;
+use without::{match_tree, rewrite_root, simplify};
 
 fn rounds(n: u64) -> u64 {
     let times = std::env::var("SECOND_ROUNDS").ok().and_then(|s| s.parse().ok());

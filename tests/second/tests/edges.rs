@@ -1,8 +1,11 @@
 //! Edges: sizes, nesting, outputs, budgets, damage.
 
+mod without;
+
 use second::gen;
 use second::words::*;
 use second::*;
+use without::{match_tree, rewrite_root, simplify};
 
 fn a(number: u32, at: u32) -> Answer {
     Answer { number, at }

@@ -1,6 +1,9 @@
 //! The examples of document 01.
 
+mod without;
+
 use second::*;
+use without::{match_tree, rewrite_root};
 
 const BOOK_A: &str = "book=1\nrules=3\nrule=0\nvars=1\nleft=s2.2 m0.0 m0.0\nright=m0.0\n\
 rule=1\nvars=1\nleft=s3.1 l m0.0\nright=m0.0\n\

@@ -1,11 +1,14 @@
 //! E2: rules for a front part of the arguments. Worked out by hand from
 //! document 02.
 
+mod without;
+
 use second::gen;
 use second::right::{write_right, written_root};
 use second::term::Laid;
 use second::words::*;
 use second::*;
+use without::{match_tree, rewrite_root, simplify};
 
 fn a(number: u32, at: u32) -> Answer {
     Answer { number, at }
@@ -463,7 +466,7 @@ fn the_cases_cover() {
         let book = second::book::read(&c.book).unwrap();
         let term = Laid::of(&c.term);
         let mut note = |what, is: bool| *seen.entry(what).or_insert(0) += u32::from(is);
-        let Ok(found) = second::walk::walk(&c.tree, &term, 0, Some(&book)) else {
+        let Ok(found) = second::walk::walk(&c.tree, &term, 0, Some(&book), &mut 0) else {
             note("damage", true);
             continue;
         };
