@@ -31,6 +31,11 @@
  *     right=m0.0              to s7.2 v1 v2, for m0.0 is s7.0
  *     right=l m0.0            18 at 2: an abstraction takes no arguments
  *
+ * Where a tree is walked, visits gets the number of nodes visited, the last node included; a term that the root Switch sends to a Fail counts 2,
+ * and so does such an offset in simplifying. simplify gives the sum over all walks of all steps and of the last search, which finds no rule
+ * anywhere, or a rule with the budget used, or is refused. After 14, visits counts up to and including the damaged node, so a tree of no words
+ * counts 1. After 1, 2, 13, 15 and 18 it is what was walked. Where nothing was walked it is 0: after 11 and 12, and with a tree over 16,384 words.
+ *
  * Every input is taken, whole or damaged, and every call ends. A lent output is always written to its end: after 1 and after a refusal (10
  * and up) it is zero, else it is zero behind the result. A word of a result may be zero too (the token s0.0), so a term's end is told by the
  * counts in its words, a book's by the lengths in it, a text's by the first zero byte.
@@ -89,25 +94,27 @@ uint32_t rosenduch_compile(const uint32_t *book, size_t book_len, uint32_t *out,
 
 /*
  * Matches a term by a tree. Where a rule fits, rule gets its number, and bodies, lengths and aside what match_rule gives; else rule and aside
- * are 0. The tree is taken up to 16,384 words; a compiled one may have zeros behind it. Answers 0, 1, 11, 13 or 14.
+ * are 0. visits gets the nodes visited. The tree is taken up to 16,384 words; a compiled one may have zeros behind it. Answers 0, 1, 11, 13 or
+ * 14.
  */
 uint32_t rosenduch_match_tree(const uint32_t *tree, size_t tree_len, const uint32_t *term, size_t term_len, uint32_t *bodies,
-                              size_t bodies_len, uint32_t lengths[16], uint32_t *rule, uint32_t *aside, size_t *at);
+                              size_t bodies_len, uint32_t lengths[16], uint32_t *rule, uint32_t *aside, uint64_t *visits, size_t *at);
 
 /*
- * Rewrites a term at its root by the rule of the book that the tree names. out gets the new term, the arguments set aside at its end. Answers 0,
- * 1, 11, 12, 13, 14, 15 or 18.
+ * Rewrites a term at its root by the rule of the book that the tree names. out gets the new term, the arguments set aside at its end, and visits
+ * the nodes visited. Answers 0, 1, 11, 12, 13, 14, 15 or 18.
  */
 uint32_t rosenduch_rewrite_root(const uint32_t *book, size_t book_len, const uint32_t *tree, size_t tree_len, const uint32_t *term,
-                                size_t term_len, uint32_t *out, size_t out_len, size_t *at);
+                                size_t term_len, uint32_t *out, size_t out_len, uint64_t *visits, size_t *at);
 
 /*
  * Simplifies a term: rewrites at the lowest offset where the tree names a rule, until there is none or the budget of steps is used. out gets
- * the term so far, and steps the number of steps made; after a refusal steps are those completed before it. Answers 0, 2, 11, 12, 13, 14,
- * 15 or 18.
+ * the term so far, steps the number of steps made, and visits the nodes visited by all walks; after a refusal steps are those completed before
+ * it. Answers 0, 2, 11, 12, 13, 14, 15 or 18.
  */
 uint32_t rosenduch_simplify(const uint32_t *book, size_t book_len, const uint32_t *tree, size_t tree_len, const uint32_t *term,
-                            size_t term_len, uint16_t budget, uint32_t *out, size_t out_len, uint16_t *steps, size_t *at);
+                            size_t term_len, uint16_t budget, uint32_t *out, size_t out_len, uint16_t *steps, uint64_t *visits,
+                            size_t *at);
 
 /* Reads the text of a book. out gets its words. Answers 0, 10, 12 or 13. */
 uint32_t rosenduch_read_book(const uint8_t *text, size_t text_len, uint32_t *out, size_t out_len, size_t *at);

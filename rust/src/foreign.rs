@@ -42,6 +42,7 @@ extern "C" {
         lengths: *mut [u32; 16],
         rule: *mut u32,
         aside: *mut u32,
+        visits: *mut u64,
         at: *mut usize,
     ) -> u32;
     fn rosenduch_rewrite_root(
@@ -53,6 +54,7 @@ extern "C" {
         term_len: usize,
         out: *mut u32,
         out_len: usize,
+        visits: *mut u64,
         at: *mut usize,
     ) -> u32;
     fn rosenduch_simplify(
@@ -66,6 +68,7 @@ extern "C" {
         out: *mut u32,
         out_len: usize,
         steps: *mut u16,
+        visits: *mut u64,
         at: *mut usize,
     ) -> u32;
     fn rosenduch_read_book(text: *const u8, text_len: usize, out: *mut u32, out_len: usize, at: *mut usize) -> u32;
@@ -126,9 +129,9 @@ pub fn compile(book: &[u32], out: &mut [u32]) -> (Answer, u32) {
     (answer, words)
 }
 
-/// Matches by a tree, with the rule that it names and the number of arguments set aside: 0, 1, 11, 13 or 14.
-pub fn match_tree(tree: &[u32], term: &[u32], bodies: &mut [u32], lengths: &mut [u32; 16]) -> (Answer, u32, u32) {
-    let (mut rule, mut aside) = (0, 0);
+/// Matches by a tree, with the rule that it names, the number of arguments set aside and the nodes visited: 0, 1, 11, 13 or 14.
+pub fn match_tree(tree: &[u32], term: &[u32], bodies: &mut [u32], lengths: &mut [u32; 16]) -> (Answer, u32, u32, u64) {
+    let (mut rule, mut aside, mut visits) = (0, 0, 0);
     let answer = answer(|at| unsafe {
         rosenduch_match_tree(
             tree.as_ptr(),
@@ -140,15 +143,17 @@ pub fn match_tree(tree: &[u32], term: &[u32], bodies: &mut [u32], lengths: &mut 
             lengths,
             &mut rule,
             &mut aside,
+            &mut visits,
             at,
         )
     });
-    (answer, rule, aside)
+    (answer, rule, aside, visits)
 }
 
-/// Rewrites a term at its root: 0, 1, 11, 12, 13, 14, 15 or 18.
-pub fn rewrite_root(book: &[u32], tree: &[u32], term: &[u32], out: &mut [u32]) -> Answer {
-    answer(|at| unsafe {
+/// Rewrites a term at its root, with the nodes visited: 0, 1, 11, 12, 13, 14, 15 or 18.
+pub fn rewrite_root(book: &[u32], tree: &[u32], term: &[u32], out: &mut [u32]) -> (Answer, u64) {
+    let mut visits = 0;
+    let answer = answer(|at| unsafe {
         rosenduch_rewrite_root(
             book.as_ptr(),
             book.len(),
@@ -158,14 +163,16 @@ pub fn rewrite_root(book: &[u32], tree: &[u32], term: &[u32], out: &mut [u32]) -
             term.len(),
             out.as_mut_ptr(),
             out.len(),
+            &mut visits,
             at,
         )
-    })
+    });
+    (answer, visits)
 }
 
-/// Simplifies a term, with the steps made: 0, 2, 11, 12, 13, 14, 15 or 18.
-pub fn simplify(book: &[u32], tree: &[u32], term: &[u32], budget: u16, out: &mut [u32]) -> (Answer, u16) {
-    let mut steps = 0;
+/// Simplifies a term, with the steps made and the nodes visited by all walks: 0, 2, 11, 12, 13, 14, 15 or 18.
+pub fn simplify(book: &[u32], tree: &[u32], term: &[u32], budget: u16, out: &mut [u32]) -> (Answer, u16, u64) {
+    let (mut steps, mut visits) = (0, 0);
     let answer = answer(|at| unsafe {
         rosenduch_simplify(
             book.as_ptr(),
@@ -178,10 +185,11 @@ pub fn simplify(book: &[u32], tree: &[u32], term: &[u32], budget: u16, out: &mut
             out.as_mut_ptr(),
             out.len(),
             &mut steps,
+            &mut visits,
             at,
         )
     });
-    (answer, steps)
+    (answer, steps, visits)
 }
 
 /// Reads the text of a book: 0, 10, 12 or 13.

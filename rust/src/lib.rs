@@ -35,6 +35,10 @@
 //! # }
 //! ```
 //!
+//! Where a tree is walked, `visits` is the number of nodes visited, the last node included; in simplifying it is the sum over all walks of all
+//! steps and of the last search. Two trees of one book can be compared by it. A refusal does not tell the nodes visited before it: the functions
+//! of [`raw`] do.
+//!
 //! Every function takes every input, whole or damaged, and comes to an end; what is bad is [`Refused`] with document 01's number and place. The
 //! functions here lend buffers of the largest sizes that results can have, so they refuse by 13 only a tree over 16,384 words and a
 //! book text over 65,536 bytes. The functions of [`raw`] take the caller's buffers.
@@ -52,7 +56,8 @@ mod length;
 pub use answer::{Answer, Refused, BUDGET_USED, CANNOT_TAKE, DONE, NO_FIT};
 
 /// The thirteen operations as they are: the caller lends every output, of any length. After a refusal, and where no rule fits, every lent
-/// output is zero; else what a result leaves unused is zero.
+/// output is zero; else what a result leaves unused is zero. The nodes visited are told on every answer: up to and including the damaged node with
+/// 14, what was walked with 1, 2, 13, 15 and 18, and 0 where nothing was: with 11, with 12 and with a tree over 16,384 words.
 pub mod raw {
     pub use crate::foreign::{
         build_left, check_book, check_term, compile, match_rule, match_tree, read_book, read_term, repair_book, rewrite_root, simplify,
@@ -81,11 +86,31 @@ pub struct Match {
     pub aside: u32,
 }
 
+/// What a match by a tree finds.
+#[derive(Clone, Debug, PartialEq, Eq)]
+pub struct TreeMatch {
+    /// `None` where the tree says that no rule fits.
+    pub found: Option<Match>,
+    /// The nodes visited.
+    pub visits: u64,
+}
+
+/// What rewriting at the root leaves.
+#[derive(Clone, Debug, PartialEq, Eq)]
+pub struct Rewritten {
+    /// `None` where the tree says that no rule fits.
+    pub term: Option<Vec<u32>>,
+    /// The nodes visited.
+    pub visits: u64,
+}
+
 /// What simplifying leaves.
 #[derive(Clone, Debug, PartialEq, Eq)]
 pub struct Simplified {
     pub term: Vec<u32>,
     pub steps: u16,
+    /// The nodes visited by all walks of all steps and of the last search.
+    pub visits: u64,
     /// Whether the budget was used while a rule still fits; else no rule fits anywhere.
     pub budget_used: bool,
 }
@@ -158,28 +183,30 @@ pub fn compile(book: &[u32]) -> Result<Vec<u32>, Refused> {
     Ok(cut(out, words as usize))
 }
 
-/// The rule that the tree names for the term, and how it fits; `None` where it says that none fits.
-pub fn match_tree(tree: &[u32], term: &[u32]) -> Result<Option<Match>, Refused> {
+/// The rule that the tree names for the term, and how it fits.
+pub fn match_tree(tree: &[u32], term: &[u32]) -> Result<TreeMatch, Refused> {
     let mut buffer = vec![0; MOST_BODIES];
     let mut lengths = [0; 16];
-    let (answer, rule, aside) = raw::match_tree(tree, term, &mut buffer, &mut lengths);
+    let (answer, rule, aside, visits) = raw::match_tree(tree, term, &mut buffer, &mut lengths);
     let number = answer.accepted()?;
-    Ok((number == DONE).then(|| Match { rule, bodies: split(&buffer, &lengths), aside }))
+    let found = (number == DONE).then(|| Match { rule, bodies: split(&buffer, &lengths), aside });
+    Ok(TreeMatch { found, visits })
 }
 
-/// The term, rewritten at its root by the rule that the tree names, with the arguments set aside at its end; `None` where none fits.
-pub fn rewrite_root(book: &[u32], tree: &[u32], term: &[u32]) -> Result<Option<Vec<u32>>, Refused> {
+/// The term, rewritten at its root by the rule that the tree names, with the arguments set aside at its end.
+pub fn rewrite_root(book: &[u32], tree: &[u32], term: &[u32]) -> Result<Rewritten, Refused> {
     let mut out = vec![0; MOST_TERM];
-    let number = raw::rewrite_root(book, tree, term, &mut out).accepted()?;
-    Ok((number == DONE).then(|| term_in(out)))
+    let (answer, visits) = raw::rewrite_root(book, tree, term, &mut out);
+    let number = answer.accepted()?;
+    Ok(Rewritten { term: (number == DONE).then(|| term_in(out)), visits })
 }
 
-/// The term after at most `budget` steps. A refusal does not tell the steps completed before it: [`raw::simplify`] does.
+/// The term after at most `budget` steps. A refusal does not tell the steps completed and the nodes visited before it: [`raw::simplify`] does.
 pub fn simplify(book: &[u32], tree: &[u32], term: &[u32], budget: u16) -> Result<Simplified, Refused> {
     let mut out = vec![0; MOST_TERM];
-    let (answer, steps) = raw::simplify(book, tree, term, budget, &mut out);
+    let (answer, steps, visits) = raw::simplify(book, tree, term, budget, &mut out);
     let budget_used = answer.accepted()? == BUDGET_USED;
-    Ok(Simplified { term: term_in(out), steps, budget_used })
+    Ok(Simplified { term: term_in(out), steps, visits, budget_used })
 }
 
 /// The words of a book's text.

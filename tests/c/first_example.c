@@ -53,17 +53,19 @@ static int simplified(size_t book_len, size_t term_len)
     size_t at = 0;
     uint32_t words = 0;
     uint16_t steps = 0;
+    uint64_t visits = 0;
     if (!is("compile", rosenduch_compile(book, book_len, tree, ROSENDUCH_MOST_TREE, &words, &at), 0, at)) {
         return 0;
     }
-    if (!is("simplify", rosenduch_simplify(book, book_len, tree, words, term, term_len, 1000, result, ROSENDUCH_MOST_TERM, &steps, &at), 0, at)) {
+    uint32_t answer = rosenduch_simplify(book, book_len, tree, words, term, term_len, 1000, result, ROSENDUCH_MOST_TERM, &steps, &visits, &at);
+    if (!is("simplify", answer, 0, at)) {
         return 0;
     }
     size_t length = term_length(result, ROSENDUCH_MOST_TERM);
     if (!is("write_term", rosenduch_write_term(result, length, text, ROSENDUCH_MOST_TEXT, &at), 0, at)) {
         return 0;
     }
-    printf("tree=%u\nsteps=%u\nresult=%s", (unsigned)words, (unsigned)steps, (const char *)text);
+    printf("tree=%u\nsteps=%u\nvisits=%llu\nresult=%s", (unsigned)words, (unsigned)steps, (unsigned long long)visits, (const char *)text);
     return 1;
 }
 

@@ -23,14 +23,17 @@ static void show(const uint32_t *book, size_t book_len, uint32_t tree_len, const
     uint32_t term[8];
     uint32_t rule = 9;
     uint32_t aside = 9;
+    uint64_t visits = 9;
     size_t at = 9;
     rosenduch_read_term((const uint8_t *)term_text, strlen(term_text), term, 8, &at);
     uint32_t answer = rosenduch_match_rule(book, book_len, 0, term, term_len, bodies, ROSENDUCH_MOST_BODIES, lengths, &aside, &at);
     printf("match_rule=%u aside=%u words=%u\n", (unsigned)answer, (unsigned)aside, (unsigned)lengths[0]);
-    answer = rosenduch_match_tree(tree, tree_len, term, term_len, bodies, ROSENDUCH_MOST_BODIES, lengths, &rule, &aside, &at);
-    printf("match_tree=%u rule=%u aside=%u words=%u\n", (unsigned)answer, (unsigned)rule, (unsigned)aside, (unsigned)lengths[0]);
-    answer = rosenduch_rewrite_root(book, book_len, tree, tree_len, term, term_len, out, ROSENDUCH_MOST_TERM, &at);
-    printf("rewrite_root=%u at=%zu\n", (unsigned)answer, at);
+    answer = rosenduch_match_tree(tree, tree_len, term, term_len, bodies, ROSENDUCH_MOST_BODIES, lengths, &rule, &aside, &visits, &at);
+    printf("match_tree=%u rule=%u aside=%u words=%u visits=%u\n", (unsigned)answer, (unsigned)rule, (unsigned)aside, (unsigned)lengths[0],
+           (unsigned)visits);
+    visits = 9;
+    answer = rosenduch_rewrite_root(book, book_len, tree, tree_len, term, term_len, out, ROSENDUCH_MOST_TERM, &visits, &at);
+    printf("rewrite_root=%u visits=%u at=%zu\n", (unsigned)answer, (unsigned)visits, at);
     if (answer == 0 && rosenduch_write_term(out, new_len, text, ROSENDUCH_MOST_TEXT, &at) == 0) {
         printf("result=%s", (const char *)text);
     }

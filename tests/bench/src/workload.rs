@@ -157,7 +157,7 @@ fn small_terms(number: usize) -> Workload {
     let mut terms = Vec::new();
     while terms.len() < number {
         let term = gen::planted(&mut rng, &alphabet, &book);
-        let (answer, steps) = second::simplify(&book, &tree, &term, BUDGET, &mut [0; 4_096]);
+        let (answer, steps, _) = second::simplify(&book, &tree, &term, BUDGET, &mut [0; 4_096]);
         if term.len() <= 60 && answer.number == 0 && steps > 0 {
             terms.push(term);
         }
