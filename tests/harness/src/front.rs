@@ -34,7 +34,7 @@ pub fn kinds(book: &[u32], tree: &[u32], term: &[u32], offsets: usize) -> Vec<&'
     };
     let laid = Laid::of(term);
     for at in 0..offsets.min(term.len()) {
-        match walk(tree, &laid, at, Some(&book)) {
+        match walk(tree, &laid, at, Some(&book), &mut 0) {
             Err(_) => return vec![DAMAGE],
             Ok(Some(found)) if found.aside == 0 => return vec![NONE_ASIDE],
             Ok(Some(found)) => return found_kinds(&book, &found, &laid, at),

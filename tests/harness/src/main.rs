@@ -2,8 +2,9 @@
 //!
 //! - `harness compare --cases N --seed S`: the edges, each printed by its name, then the cases of N seeds from S on.
 //! - `harness edges`: the edges alone.
+//! - `harness sum`: the edge with more nodes visited than 32 bits hold, which takes long.
 //! - `harness stack`: the edges in the library alone, within the stack that the process was given.
-//! - `harness soak SECONDS`: cases of fresh seeds until the time is over; 0 is for ever.
+//! - `harness soak SECONDS`: the largest sum, then cases of fresh seeds until the time is over; 0 is for ever.
 //! - `harness show SEED`: the case of one seed, and what both make of it.
 //! - `harness program NAME PATH`: the program of that name, `simplify` or `repair`, at that path, on files.
 
@@ -16,6 +17,7 @@ mod outcome;
 mod program;
 mod run;
 mod tally;
+mod visits;
 
 use std::process::ExitCode;
 use std::time::{Duration, SystemTime, UNIX_EPOCH};
@@ -46,6 +48,7 @@ fn fresh_seed() -> u64 {
 }
 
 fn soak(seconds: u64) -> Result<(), String> {
+    run::largest_sum()?;
     let from = fresh_seed();
     println!("seeds from {from} on");
     let time = (seconds > 0).then(|| Duration::from_secs(seconds));
@@ -82,10 +85,11 @@ fn main() -> ExitCode {
             ended(compare(cases, value(&words, "--seed").unwrap_or(1)))
         }
         Some("edges") => ended(counted(run::edges())),
+        Some("sum") => ended(run::largest_sum()),
         Some("stack") => ended(counted(run::stack())),
         Some("soak") => ended(soak(number(1).unwrap_or(0))),
         Some("show") => ended(run::show(number(1).unwrap_or(0))),
         Some("program") if words.len() > 2 => ended(program::run(&words[1], &words[2])),
-        _ => ended(Err("harness: compare, edges, stack, soak, show or program".to_string())),
+        _ => ended(Err("harness: compare, edges, sum, stack, soak, show or program".to_string())),
     }
 }

@@ -7,6 +7,7 @@ use second::compile::tree_of;
 
 use crate::case::Case;
 use crate::lent::Lent;
+use crate::visits;
 
 /// What lent outputs hold before a call: neither zero nor a word of a term.
 const OLD: u32 = 0xa5a5_a5a5;
@@ -20,6 +21,8 @@ pub struct Outcome {
     pub further: u32,
     /// The arguments set aside in a match.
     pub aside: u32,
+    /// The nodes visited where a tree is walked.
+    pub visits: u64,
     pub words: Vec<u32>,
     pub lengths: Vec<u32>,
     pub bytes: Vec<u8>,
@@ -34,7 +37,7 @@ fn shown<T: Copy + Into<u64>>(lent: &[T]) -> String {
 
 impl fmt::Display for Outcome {
     fn fmt(&self, f: &mut fmt::Formatter<'_>) -> fmt::Result {
-        write!(f, "{} at {}, further {}, aside {}, ", self.number, self.at, self.further, self.aside)?;
+        write!(f, "{} at {}, further {}, aside {}, visits {}, ", self.number, self.at, self.further, self.aside, self.visits)?;
         write!(f, "words {}, ", shown(&self.words))?;
         write!(f, "lengths {}, ", shown(&self.lengths))?;
         write!(f, "bytes {}", shown(&self.bytes))
@@ -117,13 +120,16 @@ pub fn library(case: &Case) -> Outcome {
         }
         Case::Compile { book, room } => with_words(*room, |out| with(raw::compile(book, out))),
         Case::MatchTree { tree, term, room } => with_bodies(*room, |b, l| {
-            let (answer, rule, aside) = raw::match_tree(tree, term, b, l);
-            Outcome { aside, ..with((answer, rule)) }
+            let (answer, rule, aside, visits) = raw::match_tree(tree, term, b, l);
+            Outcome { aside, visits, ..with((answer, rule)) }
         }),
-        Case::RewriteRoot { book, tree, term, room } => with_words(*room, |out| of_library(raw::rewrite_root(book, tree, term, out))),
+        Case::RewriteRoot { book, tree, term, room } => with_words(*room, |out| {
+            let (answer, visits) = raw::rewrite_root(book, tree, term, out);
+            Outcome { visits, ..of_library(answer) }
+        }),
         Case::Simplify { book, tree, term, budget, room } => with_words(*room, |out| {
-            let (answer, steps) = raw::simplify(book, tree, term, *budget, out);
-            with((answer, u32::from(steps)))
+            let (answer, steps, visits) = raw::simplify(book, tree, term, *budget, out);
+            Outcome { visits, ..with((answer, u32::from(steps))) }
         }),
         Case::ReadBook { text, room } => with_words(*room, |out| of_library(raw::read_book(text, out))),
         Case::WriteBook { book, room } => with_bytes(*room, |out| of_library(raw::write_book(book, out))),
@@ -160,13 +166,17 @@ pub fn second(case: &Case) -> Outcome {
             with((answer, words_of(answer, book)))
         }),
         Case::MatchTree { tree, term, room } => with_bodies(*room, |b, l| {
-            let (answer, rule, aside) = second::match_tree(tree, term, b, l);
-            Outcome { aside, ..with((answer, rule)) }
+            let (answer, rule, aside, visits) = second::match_tree(tree, term, b, l);
+            Outcome { aside, visits, ..with((answer, rule)) }
         }),
-        Case::RewriteRoot { book, tree, term, room } => with_words(*room, |out| of_second(second::rewrite_root(book, tree, term, out))),
-        Case::Simplify { book, tree, term, budget, room } => {
-            with_words(*room, |out| with(second::simplify(book, tree, term, *budget, out)))
-        }
+        Case::RewriteRoot { book, tree, term, room } => with_words(*room, |out| {
+            let (answer, visits) = second::rewrite_root(book, tree, term, out);
+            Outcome { visits, ..of_second(answer) }
+        }),
+        Case::Simplify { book, tree, term, budget, room } => with_words(*room, |out| {
+            let (answer, steps, visits) = second::simplify(book, tree, term, *budget, out);
+            Outcome { visits, ..with((answer, steps)) }
+        }),
         Case::ReadBook { text, room } => with_words(*room, |out| of_second(second::read_book(text, out))),
         Case::WriteBook { book, room } => with_bytes(*room, |out| of_second(second::write_book(book, out))),
         Case::ReadTerm { text, room } => with_words(*room, |out| of_second(second::read_term(text, out))),
@@ -175,7 +185,7 @@ pub fn second(case: &Case) -> Outcome {
     }
 }
 
-/// Runs a case in both. A difference, or a refusal that leaves something in a lent output, is told in words.
+/// Runs a case in both. A difference, a refusal that leaves something in a lent output, or visits where nothing is walked, are told in words.
 pub fn compare(case: &Case) -> Result<Outcome, String> {
     let ours = library(case);
     let theirs = second(case);
@@ -185,6 +195,9 @@ pub fn compare(case: &Case) -> Result<Outcome, String> {
     let refused = !matches!(ours.number, rosenduch::DONE | rosenduch::BUDGET_USED);
     if refused && !ours.is_clear() {
         return Err(format!("not zero after a refusal: {ours}"));
+    }
+    if !visits::is_lawful(case, &ours) {
+        return Err(format!("nodes visited where nothing is walked, or too few: {ours}"));
     }
     Ok(ours)
 }

@@ -9,7 +9,7 @@ use std::time::{Duration, Instant};
 use crate::case::{Case, OPERATIONS};
 use crate::edges;
 use crate::make::made;
-use crate::outcome::{compare, library, Outcome};
+use crate::outcome::{compare, library, second, Outcome};
 use crate::tally::Tally;
 
 const THREADS: usize = 2;
@@ -133,6 +133,22 @@ fn judged(outcome: impl Fn(&Case) -> Result<Outcome, String>) -> Result<usize, S
 /// The edges, in both.
 pub fn edges() -> Result<usize, String> {
     joined(spawn(|| judged(compare))?)
+}
+
+/// The edge with the largest sum: the library on one thread and the second program on another, as it takes long.
+pub fn largest_sum() -> Result<(), String> {
+    let ours = spawn(|| {
+        let edge = edges::visits::largest();
+        edge.judge(&library(&edge.case))?;
+        Ok(edge.full_name())
+    })?;
+    let theirs = spawn(|| {
+        let edge = edges::visits::largest();
+        edge.judge(&second(&edge.case))
+    })?;
+    joined(theirs)?;
+    println!("edge {}: ok", joined(ours)?);
+    Ok(())
 }
 
 /// The edges in the library alone, on this thread and within its stack.

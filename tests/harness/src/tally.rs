@@ -8,6 +8,7 @@ use crate::case::{Case, OPERATIONS};
 use crate::front;
 use crate::make::{Label, FRONT, MAIL};
 use crate::outcome::Outcome;
+use crate::visits::{self, KINDS as VISITS, WALKS};
 
 /// The documents' numbers.
 const NUMBERS: [u32; 11] = [0, 1, 2, 10, 11, 12, 13, 14, 15, 16, 18];
@@ -57,6 +58,9 @@ pub struct Tally {
     /// Cases of simplifying with at least one step, and all of their steps.
     stepped: u64,
     steps: u64,
+    /// How often a kind of nodes visited was met, by operation, and the most of each operation.
+    visits: BTreeMap<(&'static str, usize), u64>,
+    most: BTreeMap<usize, u64>,
 }
 
 impl Tally {
@@ -70,6 +74,11 @@ impl Tally {
             }
         }
         *self.aside.entry(case.operation()).or_default() += u64::from(outcome.aside > 0);
+        if let Some(kind) = visits::kind(case, outcome) {
+            *self.visits.entry((kind, case.operation())).or_default() += 1;
+            let most = self.most.entry(case.operation()).or_default();
+            *most = outcome.visits.max(*most);
+        }
         if let Case::Simplify { .. } = case {
             self.stepped += u64::from(outcome.further > 0);
             self.steps += u64::from(outcome.further);
@@ -91,6 +100,13 @@ impl Tally {
         }
         for (key, times) in other.aside {
             *self.aside.entry(key).or_default() += times;
+        }
+        for (key, times) in other.visits {
+            *self.visits.entry(key).or_default() += times;
+        }
+        for (key, visits) in other.most {
+            let most = self.most.entry(key).or_default();
+            *most = visits.max(*most);
         }
     }
 
@@ -124,6 +140,9 @@ impl Tally {
         faults.extend(missed.map(|kind| format!("no rule for a front part was of the kind {kind:?}")));
         let missed = MATCHES.into_iter().filter(|&operation| self.set_aside(operation) == 0);
         faults.extend(missed.map(|operation| format!("{} set nothing aside", OPERATIONS[operation].name)));
+        let all = VISITS.into_iter().flat_map(|(kind, of)| of.iter().map(move |&operation| (kind, operation)));
+        let missed = all.filter(|key| !self.visits.contains_key(key));
+        faults.extend(missed.map(|(kind, operation)| format!("{} had no nodes visited of the kind {kind:?}", OPERATIONS[operation].name)));
         faults
     }
 
@@ -145,6 +164,7 @@ impl Tally {
         self.print_fitted();
         self.print_labels();
         self.print_kinds("texts to repair", MAIL, mail_kinds(), &[0, 10, 13]);
+        self.print_visits();
         self.print_kinds("rules for a front part", FRONT, front::all(), &[0, 1, 2, 11, 13, 14, 15, 18]);
     }
 
@@ -163,6 +183,26 @@ impl Tally {
         for ((input, how), times) in &self.labels {
             println!("{input:>14} {times:>8} {how}");
         }
+    }
+
+    fn print_visits(&self) {
+        print!("nodes visited, by kind and operation:\n{:>36}", "");
+        WALKS.iter().for_each(|&operation| print!("{:>14}", OPERATIONS[operation].name));
+        println!();
+        for (kind, of) in VISITS {
+            print!("{kind:>36}");
+            for operation in WALKS {
+                match self.visits.get(&(kind, operation)) {
+                    None if of.contains(&operation) => print!("{:>14}", 0),
+                    None => print!("{:>14}", "-"),
+                    Some(times) => print!("{times:>14}"),
+                }
+            }
+            println!();
+        }
+        print!("{:>36}", "the most");
+        WALKS.iter().for_each(|operation| print!("{:>14}", self.most.get(operation).unwrap_or(&0)));
+        println!();
     }
 
     fn print_kinds(&self, title: &str, input: &'static str, kinds: impl Iterator<Item = &'static str>, numbers: &[u32]) {

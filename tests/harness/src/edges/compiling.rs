@@ -23,7 +23,7 @@ fn rooted(symbols: &[(u32, u32)], below: impl Fn(u32, u32, u32) -> Vec<u32>) -> 
 }
 
 /// The words of a subtree at an address: a token `+n` is the address n words after its first.
-fn subtree(at: u32, tokens: &str) -> Vec<u32> {
+pub fn subtree(at: u32, tokens: &str) -> Vec<u32> {
     let token = |token: &str| match token.strip_prefix('+') {
         Some(after) => vec![at + words(after)[0]],
         None => words(token),

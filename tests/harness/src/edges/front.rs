@@ -128,20 +128,20 @@ fn leaf(aside: u32) -> Vec<u32> {
 fn damaged_alone() -> Vec<Edge> {
     let mut edges = Vec::new();
     for (term, count) in [("s3.0", 0), ("s3.2 s7.0 s8.0", 2), (&with_leaves(3, 15), 15), ("l s7.0", 1), ("v1", 0)] {
-        let mut over = |aside, told| {
+        let mut over = |aside, told: Told| {
             edges.push(edge(
                 format!("a Leaf with {aside} set aside, over {term}"),
                 Case::MatchTree { tree: leaf(aside), term: words(term), room: 3 },
-                told,
+                told.visits(1),
             ));
         };
         over(count, fits(&[]).further(0).aside(count));
         over(count + 1, clear(DAMAGED, 0));
         over(u32::MAX, clear(DAMAGED, 0));
     }
-    let entered = |name: &str, aside, told| {
+    let entered = |name: &str, aside, told: Told| {
         let tree = words(&format!("2 0 1 s3.2 6 6 2 1 1 s7.0 12 12 1 5 0 {aside}"));
-        edge(name, Case::MatchTree { tree, term: words("s3.2 s7.0 s8.0"), room: 3 }, told)
+        edge(name, Case::MatchTree { tree, term: words("s3.2 s7.0 s8.0"), room: 3 }, told.visits(3))
     };
     edges.extend([
         entered("two of two set aside, below an entered part", 2, fits(&[]).further(5).aside(2)),
@@ -154,8 +154,8 @@ fn damaged_alone() -> Vec<Edge> {
 fn damaged_by_book() -> Vec<Edge> {
     let two = book(&[(0, "s3.2 s7.0 s7.0", "s9.0")]);
     let none = book(&[(0, "s3.0", "s9.0")]);
-    let by_leaf = |name: &str, book: &[u32], aside, term: &str, told| {
-        edge(name, Case::RewriteRoot { book: book.to_vec(), tree: leaf(aside), term: words(term), room: 3 }, told)
+    let by_leaf = |name: &str, book: &[u32], aside, term: &str, told: Told| {
+        edge(name, Case::RewriteRoot { book: book.to_vec(), tree: leaf(aside), term: words(term), room: 3 }, told.visits(1))
     };
     let bad = |name: &str, book: &[u32], aside, term: &str| by_leaf(name, book, aside, term, clear(DAMAGED, 0));
     let three = "s3.3 s7.0 s7.0 s8.0";
@@ -182,10 +182,14 @@ fn damaged_in_steps() -> Vec<Edge> {
     let by_tree = |name: &str, term: &str, told| {
         edge(name, Case::Simplify { book: book.clone(), tree: tree.clone(), term: words(term), budget: 9, room: 9 }, told)
     };
-    let new = done(words("s5.2 s9.0 s9.1 s8.0")).further(2);
+    let new = done(words("s5.2 s9.0 s9.1 s8.0")).further(2).visits(4 + 6 + 8);
     vec![
         by_tree("one of two set aside, after none of one", "s5.2 s3.1 s7.0 s3.2 s7.0 s8.0", new),
-        by_tree("one of three set aside, after none of one", "s5.2 s3.1 s7.0 s3.3 s7.0 s8.0 s8.0", clear(DAMAGED, 16).further(1)),
+        by_tree(
+            "one of three set aside, after none of one",
+            "s5.2 s3.1 s7.0 s3.3 s7.0 s8.0 s8.0",
+            clear(DAMAGED, 16).further(1).visits(4 + 6),
+        ),
     ]
 }
 

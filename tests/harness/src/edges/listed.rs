@@ -71,9 +71,9 @@ fn with_outputs() -> Vec<(Case, Told)> {
         (Case::MatchRule { book: book.clone(), rule: 0, term: term.clone(), room }, fits(&[s7()])),
         (Case::BuildLeft { book: book.clone(), rule: 0, bodies: s7(), lengths, room }, done(term.clone())),
         (Case::Compile { book: book.clone(), room }, done(tree.clone()).further(725)),
-        (Case::MatchTree { tree, term: term.clone(), room }, fits(&[s7()]).further(0)),
-        (root, done(s7())),
-        (simplify, done(s7()).further(1)),
+        (Case::MatchTree { tree, term: term.clone(), room }, fits(&[s7()]).further(0).visits(3)),
+        (root, done(s7()).visits(3)),
+        (simplify, done(s7()).further(1).visits(3 + 2)),
         (Case::ReadBook { text: BOOK_A.into(), room }, done(book.clone())),
         (Case::WriteBook { book, room }, text(BOOK_A)),
         (Case::ReadTerm { text: b"s2.2 s7.0 s7.0\n".to_vec(), room }, done(term.clone())),
@@ -95,9 +95,10 @@ fn outputs() -> Vec<Edge> {
     let mut edges = Vec::new();
     for (case, told) in with_outputs() {
         let need = told.words.as_ref().map_or(0, Vec::len).max(told.bytes.as_ref().map_or(0, Vec::len));
-        // In simplifying the steps that were completed are told after a refusal too.
+        // The nodes visited, and in simplifying the steps that were completed, are told after a refusal too.
         let steps = if let Case::Simplify { .. } = case { 1 } else { 0 };
-        edges.push(edge("an output one short", with_room(&case, need - 1), clear(NO_ROOM, 0).further(steps)));
+        let short = Told { visits: told.visits, ..clear(NO_ROOM, 0).further(steps) };
+        edges.push(edge("an output one short", with_room(&case, need - 1), short));
         edges.push(edge("an output exact", with_room(&case, need), told));
     }
     edges
@@ -110,8 +111,8 @@ fn budgets() -> Vec<Edge> {
         edge(name, Case::Simplify { book: book_a(), tree: tree_a(), term, budget: 0, room: 4_096 }, told.further(0))
     };
     vec![
-        simplify("budget 0, a rule fits", term(), Told { number: rosenduch::BUDGET_USED, ..done(term()) }),
-        simplify("budget 0, no rule fits", unlike(), done(unlike())),
+        simplify("budget 0, a rule fits", term(), Told { number: rosenduch::BUDGET_USED, ..done(term()).visits(3) }),
+        simplify("budget 0, no rule fits", unlike(), done(unlike()).visits(3 + 2 + 2)),
     ]
 }
 

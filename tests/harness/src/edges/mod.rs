@@ -5,6 +5,7 @@ mod building;
 mod comparing;
 mod compiling;
 mod damage;
+mod deep_damage;
 mod front;
 mod listed;
 mod matching;
@@ -14,6 +15,7 @@ mod rewriting;
 mod simplifying;
 mod taking;
 mod terms;
+pub mod visits;
 mod walking;
 mod words;
 
@@ -28,6 +30,7 @@ pub struct Told {
     at: u64,
     further: Option<u32>,
     aside: u32,
+    visits: Option<u64>,
     words: Option<Vec<u32>>,
     lengths: Option<Vec<u32>>,
     bytes: Option<Vec<u8>>,
@@ -41,7 +44,7 @@ pub struct Edge {
 
 /// A number and a place, and nothing of the results.
 fn answer(number: u32, at: u64) -> Told {
-    Told { number, at, further: None, aside: 0, words: None, lengths: None, bytes: None }
+    Told { number, at, further: None, aside: 0, visits: None, words: None, lengths: None, bytes: None }
 }
 
 /// Done, with this result and zeros after it.
@@ -108,10 +111,16 @@ impl Told {
         Told { aside, ..self }
     }
 
+    /// So many nodes are visited.
+    fn visits(self, visits: u64) -> Told {
+        Told { visits: Some(visits), ..self }
+    }
+
     fn is(&self, outcome: &Outcome) -> bool {
         (self.number, self.at) == (outcome.number, outcome.at)
             && self.further.is_none_or(|further| further == outcome.further)
             && self.aside == outcome.aside
+            && self.visits.is_none_or(|visits| visits == outcome.visits)
             && holds(&outcome.words, &self.words)
             && holds(&outcome.lengths, &self.lengths)
             && holds(&outcome.bytes, &self.bytes)
@@ -129,8 +138,9 @@ impl Edge {
         if self.told.is(outcome) {
             return Ok(());
         }
-        let Told { number, at, further, aside, words, lengths, bytes } = &self.told;
-        let given = format!("{number} at {at}, further {further:?}, aside {aside}, words {words:?}, lengths {lengths:?}, bytes {bytes:?}");
+        let Told { number, at, further, aside, visits, words, lengths, bytes } = &self.told;
+        let counts = format!("further {further:?}, aside {aside}, visits {visits:?}");
+        let given = format!("{number} at {at}, {counts}, words {words:?}, lengths {lengths:?}, bytes {bytes:?}");
         Err(format!("given: {given}\ncame:  {outcome}"))
     }
 }
@@ -148,10 +158,12 @@ pub fn all() -> Result<Vec<Edge>, String> {
         compiling::edges(),
         walking::edges(),
         damage::edges(),
+        deep_damage::edges(),
         front::edges(),
         rewriting::edges(),
         simplifying::edges(),
         taking::edges(),
+        visits::edges(),
         repairing::edges(),
     ]);
     let mut names = BTreeSet::new();

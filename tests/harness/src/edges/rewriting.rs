@@ -29,25 +29,25 @@ fn at_root(name: &str, book: &[u32], term: &str, room: usize, told: Told) -> Edg
 
 fn rewritten() -> Vec<Edge> {
     let a = book_a();
-    let to = |name: &str, book: &[u32], term: &str, new: &str| at_root(name, book, term, 5, done(words(new)));
+    let to = |name: &str, book: &[u32], term: &str, new: &str, visits| at_root(name, book, term, 5, done(words(new)).visits(visits));
     vec![
-        to("s3.1 l s4.1 v1", &a, "s3.1 l s4.1 v1", "s4.1 s3.1 l v1"),
-        to("s3.1 l s4.1 s7.0 by the lower rule", &a, "s3.1 l s4.1 s7.0", "s4.1 s7.0"),
-        to("s1.1 v1 under a new abstraction", &book(&[UNDER]), "s1.1 v1", "l v2"),
-        to("a part put twice", &book(&[DOUBLE]), "s1.1 s7.0", "s3.2 s7.0 s7.0"),
+        to("s3.1 l s4.1 v1", &a, "s3.1 l s4.1 v1", "s4.1 s3.1 l v1", 5),
+        to("s3.1 l s4.1 s7.0 by the lower rule", &a, "s3.1 l s4.1 s7.0", "s4.1 s7.0", 4),
+        to("s1.1 v1 under a new abstraction", &book(&[UNDER]), "s1.1 v1", "l v2", 2),
+        to("a part put twice", &book(&[DOUBLE]), "s1.1 s7.0", "s3.2 s7.0 s7.0", 2),
     ]
 }
 
 fn refusals() -> Vec<Edge> {
     let (under, double, chain) = (book(&[UNDER]), book(&[DOUBLE]), book(&CHAIN));
-    let refused = |name: &str, book: &[u32], term: &str, number, at| at_root(name, book, term, 2, clear(number, at));
+    let refused = |name: &str, book: &[u32], term: &str, number, at, visits| at_root(name, book, term, 2, clear(number, at).visits(visits));
     let cracked = Case::RewriteRoot { book: chain, tree: words(CRACKED), term: words("s3.0"), room: 2 };
     vec![
-        refused("no rule fits", &book_a(), "s7.0", NONE_FITS, 0),
-        refused("over id 65,535", &under, "s1.1 v65535", OVER, 0),
-        refused("one word short", &double, "s1.1 s7.0", NO_ROOM, 0),
-        refused("a bad term", &double, "s1.1", BAD_TERM, 1),
-        edge("a damaged tree", cracked, clear(DAMAGED, 18)),
+        refused("no rule fits", &book_a(), "s7.0", NONE_FITS, 0, 2),
+        refused("over id 65,535", &under, "s1.1 v65535", OVER, 0, 2),
+        refused("one word short", &double, "s1.1 s7.0", NO_ROOM, 0, 2),
+        refused("a bad term", &double, "s1.1", BAD_TERM, 1, 0),
+        edge("a damaged tree", cracked, clear(DAMAGED, 18).visits(2)),
     ]
 }
 

@@ -14,13 +14,18 @@ fn at_root(name: &str, rules: &[Rule], term: Vec<u32>, room: usize, told: Told) 
     edge(name, Case::RewriteRoot { book, tree, term, room }, told)
 }
 
+/// The nodes on the way to a left side of one symbol with abstractions below it: a Switch for each of them, and the Leaf.
+fn visits(left: &str) -> u64 {
+    2 + left.split(' ').filter(|&token| token == "l").count() as u64
+}
+
 /// A term by one rule: the new term, or how many arguments cannot be taken.
 fn one(rule: Rule, term: &str, new: Result<&str, u64>) -> Edge {
     let told = match new {
         Ok(new) => done(words(new)),
         Err(aside) => clear(CANNOT_TAKE, aside),
     };
-    at_root(&format!("{term} by {} to {}", rule.1, rule.2), &[rule], words(term), 40, told)
+    at_root(&format!("{term} by {} to {}", rule.1, rule.2), &[rule], words(term), 40, told.visits(visits(rule.1)))
 }
 
 /// Roots that are a symbol, an abstraction, or a body with a symbol, an abstraction or a variable. A variable alone is no right side.
@@ -28,7 +33,7 @@ fn roots() -> Vec<Edge> {
     let to = |right: &'static str| (1, "s3.1 m0.0", right);
     let (symbol, abstraction, body) = (to("s4.2 m0.0 s9.0"), to("l m0.0"), to("m0.0"));
     vec![
-        at_root("fewer arguments than the rule", &[symbol], words("s3.0"), 40, clear(NONE_FITS, 0)),
+        at_root("fewer arguments than the rule", &[symbol], words("s3.0"), 40, clear(NONE_FITS, 0).visits(2)),
         one(symbol, "s3.1 s7.0", Ok("s4.2 s7.0 s9.0")),
         one(symbol, "s3.3 s7.0 l v2 v1", Ok("s4.4 s7.0 s9.0 l v2 v1")),
         one(symbol, "s3.2 l v1 s5.1 s8.0", Ok("s4.3 l v1 s9.0 s5.1 s8.0")),
@@ -93,7 +98,7 @@ fn before_15() -> Vec<Edge> {
         [words(&format!("s3.{count}")), part, aside].concat()
     };
     let (long, deep, far) = (gen::wide(&mut rng, 2_500), gen::chain(&mut rng, 63), words("v65535"));
-    let over = |name: &str, rule, term, told| at_root(name, &[rule], term, most, told);
+    let over = |name: &str, rule, term, told: Told| at_root(name, &[rule], term, most, told.visits(2));
     let cannot = || clear(CANNOT_TAKE, 1);
     vec![
         over("over 4,096 words, and cannot take", TO_LOOP, with(2, long.clone()), cannot()),
@@ -115,10 +120,10 @@ fn limits() -> Vec<Edge> {
     let longer: Rule = (1, "s3.1 m0.0", "s4.3 m0.0 s9.0 s9.0");
     let deep = |head: &str| words(&format!("{head} s7.0 {}s8.0", "l ".repeat(62)));
     vec![
-        at_root("4,096 words with the argument", &[to], term.clone(), 4_096, new()),
-        at_root("4,096 words with the argument, one short", &[to], term.clone(), 4_095, clear(NO_ROOM, 0)),
-        at_root("4,097 words with the argument", &[longer], term, 4_096, clear(OVER, 0)),
-        at_root("nesting 64 in the argument", &[(1, "s3.1 m0.0", "s4.1 m0.0")], deep("s3.2"), 100, done(deep("s4.2"))),
+        at_root("4,096 words with the argument", &[to], term.clone(), 4_096, new().visits(2)),
+        at_root("4,096 words with the argument, one short", &[to], term.clone(), 4_095, clear(NO_ROOM, 0).visits(2)),
+        at_root("4,097 words with the argument", &[longer], term, 4_096, clear(OVER, 0).visits(2)),
+        at_root("nesting 64 in the argument", &[(1, "s3.1 m0.0", "s4.1 m0.0")], deep("s3.2"), 100, done(deep("s4.2")).visits(2)),
     ]
 }
 
@@ -131,10 +136,10 @@ fn order() -> Vec<Edge> {
         edge(name, Case::RewriteRoot { book: book.to_vec(), tree: tree.to_vec(), term: term.to_vec(), room: 0 }, told)
     };
     vec![
-        by("cannot take, and no room", &book, &tree, &two, clear(CANNOT_TAKE, 1)),
-        by("cannot take, and a damaged tree", &book, &words("1 0 1 0 0 0"), &two, clear(DAMAGED, 0)),
-        by("cannot take, and a bad book", &[], &tree, &two, clear(BAD_BOOK, 0)),
-        by("cannot take, and a bad term", &book, &tree, &two[..2], clear(BAD_TERM, 2)),
+        by("cannot take, and no room", &book, &tree, &two, clear(CANNOT_TAKE, 1).visits(2)),
+        by("cannot take, and a damaged tree", &book, &words("1 0 1 0 0 0"), &two, clear(DAMAGED, 0).visits(1)),
+        by("cannot take, and a bad book", &[], &tree, &two, clear(BAD_BOOK, 0).visits(0)),
+        by("cannot take, and a bad term", &book, &tree, &two[..2], clear(BAD_TERM, 2).visits(0)),
     ]
 }
 
@@ -145,21 +150,24 @@ fn simplified(name: &str, term: &str, budget: u16, room: usize, told: Told) -> E
     edge(name, Case::Simplify { book, tree, term: words(term), budget, room }, told)
 }
 
+/// Each offset takes 2 nodes.
 fn simplifying() -> Vec<Edge> {
-    let after = |steps, result: &str| done(words(result)).further(steps);
-    let used = |steps, so_far: &str| Told { words: Some(words(so_far)), ..answer(rosenduch::BUDGET_USED, 0) }.further(steps);
-    let cannot = |steps, aside| clear(CANNOT_TAKE, aside).further(steps);
+    let after = |steps, result: &str, visits| done(words(result)).further(steps).visits(visits);
+    let used = |steps, so_far: &str, visits| {
+        Told { words: Some(words(so_far)), ..answer(rosenduch::BUDGET_USED, 0) }.further(steps).visits(visits)
+    };
+    let cannot = |steps, aside, visits| clear(CANNOT_TAKE, aside).further(steps).visits(visits);
     let twice = "s3.3 s3.0 s4.1 s7.0 s8.0";
     let later = "s5.2 s3.1 s7.0 s3.3 v1 s7.0 s8.0";
     vec![
-        simplified("a body takes two, and its body one", twice, 9, 8, after(2, "s4.2 s7.0 s8.0")),
-        simplified("a body takes two, budget 1", twice, 1, 8, used(1, "s3.2 s4.1 s7.0 s8.0")),
-        simplified("under an abstraction, and a part behind", "s5.2 l s3.2 s9.0 v1 s7.0", 9, 8, after(1, "s5.2 l s9.1 v1 s7.0")),
-        simplified("the second step cannot take", later, 9, 8, cannot(1, 2)),
-        simplified("the second step cannot take, and no room", later, 9, 0, cannot(1, 2)),
-        simplified("the second step cannot take, budget 1", later, 1, 8, used(1, "s5.2 s7.0 s3.3 v1 s7.0 s8.0")),
-        simplified("the second step cannot take, budget 0", later, 0, 8, used(0, later)),
-        simplified("the first step cannot take, and a part could be rewritten", "s3.2 l s3.1 s7.0 s8.0", 9, 8, cannot(0, 1)),
+        simplified("a body takes two, and its body one", twice, 9, 8, after(2, "s4.2 s7.0 s8.0", 2 + 2 + 6)),
+        simplified("a body takes two, budget 1", twice, 1, 8, used(1, "s3.2 s4.1 s7.0 s8.0", 2 + 2)),
+        simplified("under an abstraction, and a part behind", "s5.2 l s3.2 s9.0 v1 s7.0", 9, 8, after(1, "s5.2 l s9.1 v1 s7.0", 6 + 10)),
+        simplified("the second step cannot take", later, 9, 8, cannot(1, 2, 4 + 6)),
+        simplified("the second step cannot take, and no room", later, 9, 0, cannot(1, 2, 4 + 6)),
+        simplified("the second step cannot take, budget 1", later, 1, 8, used(1, "s5.2 s7.0 s3.3 v1 s7.0 s8.0", 4 + 6)),
+        simplified("the second step cannot take, budget 0", later, 0, 8, used(0, later, 4)),
+        simplified("the first step cannot take, and a part could be rewritten", "s3.2 l s3.1 s7.0 s8.0", 9, 8, cannot(0, 1, 2)),
     ]
 }
 
