@@ -23,14 +23,14 @@ module _ (said told : Answered) (e : said ≡ told) where
   pub compile-told : (words : ℕ) (out : List ℕ) (o : CompileOutcome) → compileCame told words out ≡ o → compileCame said words out ≡ o
   compile-told words out o p = ap (λ (a : Answered). compileCame a words out) e ∙ p
 
-  pub match-tree-told : (rule aside : ℕ) (bodies lengths : List ℕ) (o : MatchTreeOutcome) → matchTreeCame told rule aside bodies lengths ≡ o → matchTreeCame said rule aside bodies lengths ≡ o
-  match-tree-told rule aside bodies lengths o p = ap (λ (a : Answered). matchTreeCame a rule aside bodies lengths) e ∙ p
+  pub match-tree-told : (rule aside visits : ℕ) (bodies lengths : List ℕ) (o : MatchTreeOutcome) → matchTreeCame told rule aside visits bodies lengths ≡ o → matchTreeCame said rule aside visits bodies lengths ≡ o
+  match-tree-told rule aside visits bodies lengths o p = ap (λ (a : Answered). matchTreeCame a rule aside visits bodies lengths) e ∙ p
 
-  pub rewrite-root-told : (out : List ℕ) (o : RewriteRootOutcome) → rewriteRootCame told out ≡ o → rewriteRootCame said out ≡ o
-  rewrite-root-told out o p = ap (λ (a : Answered). rewriteRootCame a out) e ∙ p
+  pub rewrite-root-told : (visits : ℕ) (out : List ℕ) (o : RewriteRootOutcome) → rewriteRootCame told visits out ≡ o → rewriteRootCame said visits out ≡ o
+  rewrite-root-told visits out o p = ap (λ (a : Answered). rewriteRootCame a visits out) e ∙ p
 
-  pub simplify-told : (steps : ℕ) (out : List ℕ) (o : SimplifyOutcome) → simplifyCame told steps out ≡ o → simplifyCame said steps out ≡ o
-  simplify-told steps out o p = ap (λ (a : Answered). simplifyCame a steps out) e ∙ p
+  pub simplify-told : (steps visits : ℕ) (out : List ℕ) (o : SimplifyOutcome) → simplifyCame told steps visits out ≡ o → simplifyCame said steps visits out ≡ o
+  simplify-told steps visits out o p = ap (λ (a : Answered). simplifyCame a steps visits out) e ∙ p
 
   pub read-book-told : (out : List ℕ) (o : ReadBookOutcome) → readBookCame told out ≡ o → readBookCame said out ≡ o
   read-book-told out o p = ap (λ (a : Answered). readBookCame a out) e ∙ p

@@ -96,7 +96,7 @@ pub extern "C" fn rosenduch_compile(
     say(answer, at)
 }
 
-// Matches a term by a tree, with the rule that it names and the number of arguments set aside.
+// Matches a term by a tree, with the rule that it names, the number of arguments set aside and the nodes visited.
 #[no_mangle]
 pub extern "C" fn rosenduch_match_tree(
     tree: &[u32],
@@ -105,34 +105,40 @@ pub extern "C" fn rosenduch_match_tree(
     lengths: &mut [u32; 16],
     rule: &mut u32,
     aside: &mut u32,
+    visits: &mut u64,
     at: &mut usize,
 ) -> u32
-    ensures { λ r. ⌜ matchTreeCame (saying r (now (at .exit))) (now (rule .exit)) (now (aside .exit)) (now (bodies .exit)) (now (lengths .exit))
+    ensures { λ r. ⌜ matchTreeCame (saying r (now (at .exit))) (now (rule .exit)) (now (aside .exit)) (now (visits .exit)) (now (bodies .exit)) (now (lengths .exit))
         ≡ matchTreeGives (now (tree .entry)) (now (term .entry)) (length (now (bodies .entry))) ⌝ }
 {
     let found = operations::match_tree(tree, term, bodies, lengths);
     *rule = found.rule;
     *aside = found.aside;
+    *visits = found.visits;
     let answer = found.answer;
     say(answer, at)
 }
 
-// Rewrites a term at its root.
+// Rewrites a term at its root, with the nodes visited.
 #[no_mangle]
 pub extern "C" fn rosenduch_rewrite_root(
     book: &[u32],
     tree: &[u32],
     term: &[u32],
     out: &mut [u32],
+    visits: &mut u64,
     at: &mut usize,
 ) -> u32
-    ensures { λ r. ⌜ rewriteRootCame (saying r (now (at .exit))) (now (out .exit))
+    ensures { λ r. ⌜ rewriteRootCame (saying r (now (at .exit))) (now (visits .exit)) (now (out .exit))
         ≡ rewriteRootGives (now (book .entry)) (now (tree .entry)) (now (term .entry)) (length (now (out .entry))) ⌝ }
 {
-    say(operations::rewrite_root(book, tree, term, out), at)
+    let rewritten = operations::rewrite_root(book, tree, term, out);
+    *visits = rewritten.visits;
+    let answer = rewritten.answer;
+    say(answer, at)
 }
 
-// Simplifies a term, with the steps made.
+// Simplifies a term, with the steps made and the nodes visited.
 #[no_mangle]
 pub extern "C" fn rosenduch_simplify(
     book: &[u32],
@@ -141,13 +147,15 @@ pub extern "C" fn rosenduch_simplify(
     budget: u16,
     out: &mut [u32],
     steps: &mut u16,
+    visits: &mut u64,
     at: &mut usize,
 ) -> u32
-    ensures { λ r. ⌜ simplifyCame (saying r (now (at .exit))) (now (steps .exit)) (now (out .exit))
+    ensures { λ r. ⌜ simplifyCame (saying r (now (at .exit))) (now (steps .exit)) (now (visits .exit)) (now (out .exit))
         ≡ simplifyGives (now (book .entry)) (now (tree .entry)) (now (term .entry)) budget (length (now (out .entry))) ⌝ }
 {
     let done = operations::simplify(book, tree, term, budget, out);
     *steps = done.steps;
+    *visits = done.visits;
     let answer = done.answer;
     say(answer, at)
 }

@@ -62,9 +62,9 @@ pub record CAsksNothing : Type 0 where
   pub match-rule : AsksNothing 6 match-rule-kinds.ps match-rule-reads.Pre
   pub build-left : AsksNothing 5 build-left-kinds.ps build-left-reads.Pre
   pub compile : AsksNothing 4 compile-kinds.ps compile-reads.Pre
-  pub match-tree : AsksNothing 7 match-tree-kinds.ps match-tree-reads.Pre
-  pub rewrite-root : AsksNothing 5 rewrite-root-kinds.ps rewrite-root-reads.Pre
-  pub simplify : AsksNothing 6 simplify-kinds.ps simplify-reads.Pre
+  pub match-tree : AsksNothing 8 match-tree-kinds.ps match-tree-reads.Pre
+  pub rewrite-root : AsksNothing 6 rewrite-root-kinds.ps rewrite-root-reads.Pre
+  pub simplify : AsksNothing 7 simplify-kinds.ps simplify-reads.Pre
   pub read-book : AsksNothing 3 read-book-kinds.ps read-book-reads.Pre
   pub write-book : AsksNothing 3 write-book-kinds.ps write-book-reads.Pre
   pub repair-book : AsksNothing 3 repair-book-kinds.ps repair-book-reads.Pre
@@ -125,28 +125,28 @@ forC =
           × (o ≡ compileCame (saying (c .result) (now (c .after .1 .1 .1 .0))) (now (c .after .1 .1 .0)) (now (c .after .1 .0)))
           );
       match-tree = λ tree term room o. (
-          (c : Call 7 match-tree-kinds.ps match-tree-kinds.r match-tree-reads.Post)
+          (c : Call 8 match-tree-kinds.ps match-tree-kinds.r match-tree-reads.Post)
           × (tree ≡ now (c .given .0))
           × (term ≡ now (c .given .1 .0))
           × (room ≡ length (now (c .given .1 .1 .0)))
-          × (o ≡ matchTreeCame (saying (c .result) (now (c .after .1 .1 .1 .1 .1 .1 .0))) (now (c .after .1 .1 .1 .1 .0)) (now (c .after .1 .1 .1 .1 .1 .0)) (now (c .after .1 .1 .0)) (now (c .after .1 .1 .1 .0)))
+          × (o ≡ matchTreeCame (saying (c .result) (now (c .after .1 .1 .1 .1 .1 .1 .1 .0))) (now (c .after .1 .1 .1 .1 .0)) (now (c .after .1 .1 .1 .1 .1 .0)) (now (c .after .1 .1 .1 .1 .1 .1 .0)) (now (c .after .1 .1 .0)) (now (c .after .1 .1 .1 .0)))
           );
       rewrite-root = λ book tree term room o. (
-          (c : Call 5 rewrite-root-kinds.ps rewrite-root-kinds.r rewrite-root-reads.Post)
+          (c : Call 6 rewrite-root-kinds.ps rewrite-root-kinds.r rewrite-root-reads.Post)
           × (book ≡ now (c .given .0))
           × (tree ≡ now (c .given .1 .0))
           × (term ≡ now (c .given .1 .1 .0))
           × (room ≡ length (now (c .given .1 .1 .1 .0)))
-          × (o ≡ rewriteRootCame (saying (c .result) (now (c .after .1 .1 .1 .1 .0))) (now (c .after .1 .1 .1 .0)))
+          × (o ≡ rewriteRootCame (saying (c .result) (now (c .after .1 .1 .1 .1 .1 .0))) (now (c .after .1 .1 .1 .1 .0)) (now (c .after .1 .1 .1 .0)))
           );
       simplify = λ book tree term budget room o. (
-          (c : Call 6 simplify-kinds.ps simplify-kinds.r simplify-reads.Post)
+          (c : Call 7 simplify-kinds.ps simplify-kinds.r simplify-reads.Post)
           × (book ≡ now (c .given .0))
           × (tree ≡ now (c .given .1 .0))
           × (term ≡ now (c .given .1 .1 .0))
           × (budget ≡ c .given .1 .1 .1 .0)
           × (room ≡ length (now (c .given .1 .1 .1 .1 .0)))
-          × (o ≡ simplifyCame (saying (c .result) (now (c .after .1 .1 .1 .1 .1 .1 .0))) (now (c .after .1 .1 .1 .1 .1 .0)) (now (c .after .1 .1 .1 .1 .0)))
+          × (o ≡ simplifyCame (saying (c .result) (now (c .after .1 .1 .1 .1 .1 .1 .1 .0))) (now (c .after .1 .1 .1 .1 .1 .0)) (now (c .after .1 .1 .1 .1 .1 .1 .0)) (now (c .after .1 .1 .1 .1 .0)))
           );
       read-book = λ text room o. (
           (c : Call 3 read-book-kinds.ps read-book-kinds.r read-book-reads.Post)

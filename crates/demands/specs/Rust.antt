@@ -128,7 +128,7 @@ rust =
           × (tree ≡ now (c .given .0))
           × (term ≡ now (c .given .1 .0))
           × (room ≡ length (now (c .given .1 .1 .0)))
-          × (o ≡ matchTreeCame (answered (c .result .answer)) (c .result .rule) (c .result .aside) (now (c .after .1 .1 .0)) (now (c .after .1 .1 .1 .0)))
+          × (o ≡ matchTreeCame (answered (c .result .answer)) (c .result .rule) (c .result .aside) (c .result .visits) (now (c .after .1 .1 .0)) (now (c .after .1 .1 .1 .0)))
           );
       rewrite-root = λ book tree term room o. (
           (c : Call 4 rewrite-root-kinds.ps rewrite-root-kinds.r rewrite-root-reads.Post)
@@ -136,7 +136,7 @@ rust =
           × (tree ≡ now (c .given .1 .0))
           × (term ≡ now (c .given .1 .1 .0))
           × (room ≡ length (now (c .given .1 .1 .1 .0)))
-          × (o ≡ rewriteRootCame (answered (c .result)) (now (c .after .1 .1 .1 .0)))
+          × (o ≡ rewriteRootCame (answered (c .result .answer)) (c .result .visits) (now (c .after .1 .1 .1 .0)))
           );
       simplify = λ book tree term budget room o. (
           (c : Call 4 simplify-kinds.ps simplify-kinds.r simplify-reads.Post)
@@ -145,7 +145,7 @@ rust =
           × (term ≡ now (c .given .1 .1 .0))
           × (budget ≡ c .given .1 .1 .1 .0)
           × (room ≡ length (now (c .given .1 .1 .1 .1 .0)))
-          × (o ≡ simplifyCame (answered (c .result .answer)) (c .result .steps) (now (c .after .1 .1 .1 .1 .0)))
+          × (o ≡ simplifyCame (answered (c .result .answer)) (c .result .steps) (c .result .visits) (now (c .after .1 .1 .1 .1 .0)))
           );
       read-book = λ text room o. (
           (c : Call 2 read-book-kinds.ps read-book-kinds.r read-book-reads.Post)

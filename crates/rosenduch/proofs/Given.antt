@@ -8,10 +8,10 @@ use Rattle.fit.specs.Build.{buildLeft, buildAnswer, buildWords, buildLeftCame, 
 use Rattle.fit.proofs.Laws.{match-came, build-came}
 use Rattle.compiler.specs.Compiled.{compileAnswer, compileWords, compileLength, compileCame, compileGives}
 use Rattle.compiler.proofs.Laws.{compile-came}
-use Rattle.walk.specs.ByTree.{matchTree, matchTreeRule, matchTreeCame, matchTreeGives}
+use Rattle.walk.specs.ByTree.{matchTree, matchTreeRule, matchTreeVisits, matchTreeCame, matchTreeGives}
 use Rattle.walk.proofs.Laws.{tree-came}
-use Rattle.steps.specs.Rewrite.{rewriteRoot, rewriteRootCame, rewriteRootGives}
-use Rattle.steps.specs.Simplify.{simplify, simplifyAnswer, simplifyWords, simplifySteps, simplifyCame, simplifyGives}
+use Rattle.steps.specs.Rewrite.{rewriteRoot, rootVisits, rewriteRootCame, rewriteRootGives}
+use Rattle.steps.specs.Simplify.{simplify, simplifyAnswer, simplifyWords, simplifySteps, simplifyVisits, simplifyCame, simplifyGives}
 use Rattle.steps.proofs.Laws.{rewrite-root-came, simplify-came}
 
 pub match-given : (book : List ℕ) (number : ℕ) (term : List ℕ) (room : ℕ)
@@ -29,17 +29,17 @@ compile-given book room = sym (compile-came book room _ _ _ refl refl refl)
 
 pub tree-given : (tree term : List ℕ) (room : ℕ)
     → matchTreeGives tree term room
-    ≡ matchTreeCame (answered (matchAnswer room (matchTree tree term))) (matchTreeRule room tree term) (matchAside room (matchTree tree term)) (matchWords room (matchTree tree term)) (matchLengths room (matchTree tree term))
-tree-given tree term room = sym (tree-came _ _ _ _ _ tree term room refl refl refl refl refl)
+    ≡ matchTreeCame (answered (matchAnswer room (matchTree tree term))) (matchTreeRule room tree term) (matchAside room (matchTree tree term)) (matchTreeVisits tree term) (matchWords room (matchTree tree term)) (matchLengths room (matchTree tree term))
+tree-given tree term room = sym (tree-came _ _ _ _ _ _ tree term room refl refl refl refl refl refl)
 
 pub root-given : (book tree term : List ℕ) (room : ℕ)
     → rewriteRootGives book tree term room
-    ≡ rewriteRootCame (answered (buildAnswer room (rewriteRoot book tree term))) (buildWords room (rewriteRoot book tree term))
-root-given book tree term room = sym (rewrite-root-came book tree term room _ _ (refl, refl))
+    ≡ rewriteRootCame (answered (buildAnswer room (rewriteRoot book tree term))) (rootVisits book tree term) (buildWords room (rewriteRoot book tree term))
+root-given book tree term room = sym (rewrite-root-came book tree term room _ _ _ (refl, refl) refl)
 
 pub run-given : (book tree term : List ℕ) (budget room : ℕ)
     → simplifyGives book tree term budget room
-    ≡ simplifyCame (answered (simplifyAnswer room (simplify book tree budget term))) (simplifySteps (simplify book tree budget term)) (simplifyWords room (simplify book tree budget term))
+    ≡ simplifyCame (answered (simplifyAnswer room (simplify book tree budget term))) (simplifySteps (simplify book tree budget term)) (simplifyVisits (simplify book tree budget term)) (simplifyWords room (simplify book tree budget term))
 run-given book tree term budget room =
     let run = simplify book tree budget term in
-    sym (simplify-came book tree term budget room (record { answer = simplifyAnswer room run; steps = simplifySteps run }) (simplifyWords room run) (refl, refl, refl))
+    sym (simplify-came book tree term budget room (record { answer = simplifyAnswer room run; steps = simplifySteps run; visits = simplifyVisits run }) (simplifyWords room run) (refl, refl, refl, refl))

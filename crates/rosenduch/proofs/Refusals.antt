@@ -1,7 +1,8 @@
 -- Bad inputs are refused by number: each judgement is one line of an operation's definition, and an answer below 10 leaves no judgement that failed.
 use mathlib.Core.Path.{_≡_, refl, sym, ap, _∙_}
 use mathlib.Core.Bool.{Bool, true, false}
-use mathlib.Core.List.{List}
+use mathlib.Core.List.{List, [], _∷_}
+use lib.ListN.{length}
 use mathlib.Core.Option.{Option, none, some}
 use Prim.Native.Nat.{ℕ, zero, suc, _≤_, _<_}
 use native.Mathlib.Omega.{arith}
@@ -29,8 +30,8 @@ use Rattle.walk.specs.ByTree.{walkedMatch, matchTree, MatchTreeOutcome}
 use Rattle.walk.proofs.Laws.{tree-bad-term, tree-walked}
 use Rattle.steps.specs.Rewrite.{walkedRoot, rewriteRoot, RewriteRootOutcome}
 use Rattle.steps.specs.Offset.{spliced}
-use Rattle.steps.specs.Step.{Becomes}
-use Rattle.steps.specs.Simplify.{Run, Stopped, simplify, simplifyAnswer, simplifySteps, SimplifyOutcome}
+use Rattle.steps.specs.Step.{searchVisits, Becomes}
+use Rattle.steps.specs.Simplify.{Search, found, Run, Stopped, simplify, simplifyAnswer, simplifySteps, SimplifyOutcome}
 use Rattle.steps.proofs.Laws.{StepsTo, rewrite-bad-book, rewrite-bad-term, rewrite-walked, simplify-bad-book, simplify-bad-term, simplify-runs, stopped-run, none-steps, more-steps, makes-step, damage-stops}
 use Rattle.text.specs.TermText.{Said, says, badLine, termSaid, readAnswer, writeAnswer, ReadTermOutcome, WriteTermOutcome}
 use Rattle.text.specs.Mail.{Mail, mailIs, badMail, mailSaid}
@@ -50,8 +51,8 @@ refused-says room m said a p e = p ∙ ap answered (ap (matchAnswer room) e ∙ 
 unbuilt-says : (room : ℕ) (b : Built) (said : Answered) (a : Answer) → said ≡ answered (buildAnswer room b) → b ≡ building.refused a → said ≡ answered a
 unbuilt-says room b said a p e = p ∙ ap answered (ap (buildAnswer room) e ∙ refused-built room a .0)
 
-stopped-says : (room n : ℕ) (run : Run) (said : Answered) (a : Answer) → said ≡ answered (simplifyAnswer room run) → run ≡ Stopped n a → said ≡ answered a
-stopped-says room n run said a p e = p ∙ ap answered (ap (simplifyAnswer room) e ∙ stopped-run room n a .0)
+stopped-says : (room : ℕ) (trace : List Search) (last : ℕ) (run : Run) (said : Answered) (a : Answer) → said ≡ answered (simplifyAnswer room run) → run ≡ Stopped trace last a → said ≡ answered a
+stopped-says room trace last run said a p e = p ∙ ap answered (ap (simplifyAnswer room) e ∙ stopped-run room trace last a .0)
 
 -- ---- below 10, each judgement was passed
 all-good : (c : Checked) → ((at : ℕ) → c ≡ Bad at → ⊥) → c ≡ Good
@@ -168,21 +169,25 @@ module _ (book tree term : List ℕ) (room : ℕ) (said : Answered) (p : said �
 -- ---- simplifying
 module _ (book tree : List ℕ) where
   -- steps that are led through are steps of the machine
-  leads-steps : (n : ℕ) (t v : Row) → Leads (NextBy book tree) n t v → StepsTo book tree n t v
+  leads-steps : (n : ℕ) (t v : Row) → Leads (NextBy book tree) n t v → (trace : List Search) × (length trace ≡ n) × StepsTo book tree trace t v
   unfolding Leads
-  leads-steps zero t v l = rw (sym l) (none-steps book tree t)
+  leads-steps zero t v l = ([], refl, rw (sym l) (none-steps book tree t))
   leads-steps (suc n) t v l =
       let u = l .0 in
       let x = l .1 in
       let w : withinLimits (spliced t (x .0) (x .3)) ≡ true = sym (ap withinLimits (x .5)) ∙ l .2 in
-      more-steps book tree n t u v (makes-step book tree t (x .0) (x .1) (x .2) (x .3) (x .4) w ∙ ap Becomes (sym (x .5))) (leads-steps n u v (l .3))
+      let r = leads-steps n u v (l .3) in (
+        found (x .1 .number) (searchVisits book tree t) ∷ r .0,
+        ap suc (r .1),
+        more-steps book tree (r .0) (x .1 .number) t u v (makes-step book tree t (x .0) (x .1) (x .2) (x .3) (x .4) w ∙ ap (Becomes (x .1 .number)) (sym (x .5))) (r .2),
+      )
 
   module _ (term : List ℕ) (budget room : ℕ) (said : Answered) (p : said ≡ answered (simplifyAnswer room (simplify book tree budget term))) where
     run-book : BookJudged book said
-    run-book at e = stopped-says room 0 (simplify book tree budget term) said (BadBook at) p (simplify-bad-book book tree term budget at e)
+    run-book at e = stopped-says room [] 0 (simplify book tree budget term) said (BadBook at) p (simplify-bad-book book tree term budget at e)
 
     run-term : checkBook book ≡ Good → TermJudged term said
-    run-term g at e = stopped-says room 0 (simplify book tree budget term) said (BadTerm at) p (simplify-bad-term book tree term budget g at e)
+    run-term g at e = stopped-says room [] 0 (simplify book tree budget term) said (BadTerm at) p (simplify-bad-term book tree term budget g at e)
 
     run-passes : said .number < 10 → (checkBook book ≡ Good) × IsTerm term
     run-passes low = let g = book-good said low book run-book in (g, term-is said low term (run-term g))
@@ -191,9 +196,11 @@ module _ (book tree : List ℕ) where
         → Leads (NextBy book tree) n (treeOf term) v → n ≤ budget → BreaksBy book tree v at
         → (steps : ℕ) → steps ≡ simplifySteps (simplify book tree budget term) → (steps ≡ n) × (said ≡ saying 14 at)
     run-damaged n at v g h l few e steps s =
-        let run : simplify book tree budget term ≡ Stopped n (Damaged at) =
-        simplify-runs book tree term budget g h ∙ damage-stops book tree at n budget (treeOf term) v (leads-steps n (treeOf term) v l) few e in
-        (s ∙ ap simplifySteps run ∙ stopped-run room n (Damaged at) .2, stopped-says room n (simplify book tree budget term) said (Damaged at) p run)
+        let r = leads-steps n (treeOf term) v l in
+        let last = searchVisits book tree v in
+        let run : simplify book tree budget term ≡ Stopped (r .0) last (Damaged at) =
+        simplify-runs book tree term budget g h ∙ damage-stops book tree at (r .0) budget (treeOf term) v (r .2) (omega (arith, r .1, few)) e in
+        (s ∙ ap simplifySteps run ∙ stopped-run room (r .0) last (Damaged at) .2 ∙ r .1, stopped-says room (r .0) last (simplify book tree budget term) said (Damaged at) p run)
 
 -- ---- text
 module _ (text : List ℕ) (room : ℕ) (said : Answered) where

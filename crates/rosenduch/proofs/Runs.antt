@@ -2,7 +2,7 @@
 -- the lowest rule that fits, so the run is one by fit alone.
 use mathlib.Core.Path.{_≡_, refl, sym, ap, _∙_}
 use mathlib.Core.Bool.{true}
-use mathlib.Core.List.{List}
+use mathlib.Core.List.{List, [], _∷_}
 use mathlib.Core.Option.{Option, none, some}
 use mathlib.Core.Logic.{_⊎_, inl, inr}
 use Prim.Native.Nat.{ℕ, zero, suc, _≤_, _<_}
@@ -30,7 +30,7 @@ use Rattle.fit.proofs.Laws.{term-is-body, tree-of}
 use Rattle.steps.specs.Rewrite.{manyAside, rewritten}
 use Rattle.steps.specs.Offset.{partAt, spliced}
 use Rattle.steps.specs.Step.{Nowhere, FoundAt, lowestOffset, Becomes}
-use Rattle.steps.specs.Simplify.{Run, Stopped, Ended, simplifyBy, simplifyAnswer, simplifyWords, simplifySteps, SimplifyOutcome, simplifyGives}
+use Rattle.steps.specs.Simplify.{Search, Run, Stopped, Ended, simplifyBy, simplifyAnswer, simplifyWords, simplifySteps, SimplifyOutcome, simplifyGives}
 use Rattle.steps.proofs.Laws.{StepsTo, EndsAs, StopsAs, RunIs, run-is, part-term, step-term, FirstFit, compiled-offset, rule-writes-right, rule-aside, simplify-runs, stopped-run, ended-run, steps-none, steps-more, step-made, makes-step}
 use Rattle.steps.proofs.Laws as machine
 use Rattle.rosenduch.specs.Operations.{Operations, Promised}
@@ -54,13 +54,13 @@ module _ (book tree : List ℕ) where
   abbrev RunsBy : ℕ → ℕ → Row → SimplifyOutcome → Type 0
   RunsBy = Runs (RestsBy book tree) (NextBy book tree) (CannotBy book tree) (BreaksBy book tree)
 
-  leads : (n : ℕ) (t v : Row) → StepsTo book tree n t v → LeadsBy n t v
+  leads : (trace : List Search) (t v : Row) → StepsTo book tree trace t v → LeadsBy (length trace) t v
   unfolding Leads
-  leads zero t v s = steps-none book tree t v s
-  leads (suc n) t v s =
-      let k = steps-more book tree n t v s in
-      let m = step-made book tree t (k .0) (k .1) in
-      (k .0, (m .0, m .1, m .2, m .3, m .4, m .5), m .6, leads n (k .0) v (k .2))
+  leads [] t v s = steps-none book tree t v s
+  leads (x ∷ trace) t v s =
+      let k = steps-more book tree x trace t v s in
+      let m = step-made book tree t (x .rule) (k .0) (k .1) in
+      (k .0, (m .0, m .1, m .2, m .3, m .4, m .5), m .6, leads trace (k .0) v (k .3))
 
   ends : (budget n : ℕ) (v : Row) (a : Answer) → EndsAs book tree budget n v a → EndsBy budget n v (answered a)
   ends budget n v a (machine.rests e q) = rests (ap answered e) q
@@ -96,21 +96,23 @@ module _ (book tree : List ℕ) where
     gives-stop n a v e p (machine.over q m at f x u z w) = over (omega (arith, e, m)) (spliced v at u) (at, f, x, u, z, refl) w (p ∙ ap answered q)
 
     run-by : (run : Run) → RunIs book tree budget t run → o .said ≡ answered (simplifyAnswer room run) → o .out ≡ simplifyWords room run → o .steps ≡ simplifySteps run → RunsBy budget room t o
-    run-by (Ended n a v) i p q s =
-        let k = ended-run room n a v in
+    run-by (Ended trace last a v) i p q s =
+        let n = length trace in
+        let k = ended-run room trace last a v in
         let e = s ∙ k .2 in
         record {
           last = v;
-          counted = led (o .steps) n t v e (leads n t v (i .0));
+          counted = led (o .steps) n t v e (leads trace t v (i .0));
           within = omega (arith, e, i .1);
           gives = gives-end n a v e (ends budget n v a (i .2)) (p ∙ ap answered (k .0)) (q ∙ k .1);
         }
-    run-by (Stopped n a) i p q s =
-        let k = stopped-run room n a in
+    run-by (Stopped trace last a) i p q s =
+        let n = length trace in
+        let k = stopped-run room trace last a in
         let e = s ∙ k .2 in
         record {
           last = i .0;
-          counted = led (o .steps) n t (i .0) e (leads n t (i .0) (i .1));
+          counted = led (o .steps) n t (i .0) e (leads trace t (i .0) (i .1));
           within = omega (arith, e, i .2);
           gives = gives-stop n a (i .0) e (p ∙ ap answered (k .0)) (i .3);
         }
@@ -179,7 +181,7 @@ module _ (ops : Operations) (kept : Promised ops) (book tree : List ℕ) (k : Co
   next-term : (t u : Row) → IsBody t → NextBy book tree t u → withinLimits u ≡ true → IsBody u
   next-term t u i x w =
       let v : withinLimits (spliced t (x .0) (x .3)) ≡ true = sym (ap withinLimits (x .5)) ∙ w in
-      step-term book accepted tree t u i (makes-step book tree t (x .0) (x .1) (x .2) (x .3) (x .4) v ∙ ap Becomes (sym (x .5)))
+      step-term book accepted tree (x .1 .number) t u i (makes-step book tree t (x .0) (x .1) (x .2) (x .3) (x .4) v ∙ ap (Becomes (x .1 .number)) (sym (x .5)))
 
   abbrev LeadsFit : ℕ → Row → Row → Type 0
   LeadsFit = Leads (NextFit book)

@@ -1,7 +1,7 @@
 -- The wrong programs are shut out: of each, what it gives on its input and what the definition gives differ in one number that was computed.
 use mathlib.Core.Path.{_≡_, refl, sym, ap, _∙_}
 use mathlib.Core.List.{List}
-use Prim.Native.Nat.{ℕ}
+use Prim.Native.Nat.{ℕ, _-_}
 use native.Mathlib.Omega.{arith}
 use lib.ListN.{getD}
 use Rattle.term.specs.declared.answer.Answer.{Answer}
@@ -18,8 +18,10 @@ use Rattle.mend.proofs.Laws.{wrong-repairs}
 use Rattle.steps.specs.Rewrite.{RewriteRootOutcome}
 use Rattle.steps.specs.Simplify.{SimplifyOutcome, simplifyGives}
 use Rattle.rosenduch.specs.WrongFronts.{silentRule, silentTree, WrongFronts}
-use Rattle.rosenduch.specs.WrongPrograms.{onlyRefuses, sameBody, onlyRule0, onlyNone, handsBack, oneStep, inventsCount, dropsRow, passesEarlierRow, WrongTree, p1, p3, p6, firstTerm, twoRows, secondFits, exchanged, AllShutOut}
-use Rattle.rosenduch.proofs.Computed.{matches-computed, trees-computed, runs-computed, compilers-computed, fronts-computed}
+use Rattle.rosenduch.specs.WrongVisits.{matchWithoutLast, WrongVisits}
+use Rattle.rosenduch.specs.WrongPrograms.{onlyRefuses, sameBody, onlyRule0, onlyNone, handsBack, oneStep, inventsCount, dropsRow, passesEarlierRow, WrongTree, AllShutOut}
+use Rattle.rosenduch.specs.Inputs.{p1, p3, p6, firstTerm, twoRows, secondFits, exchanged}
+use Rattle.rosenduch.proofs.Computed.{matches-computed, trees-computed, runs-computed, compilers-computed, fronts-computed, visits-computed}
 
 -- two numbers that are known and differ are not equal
 apart : (n m i j : ℕ) → n ≡ i → m ≡ j → (i ≡ j → ⊥) → n ≡ m → ⊥
@@ -51,9 +53,9 @@ only-none e = apart 1 (matchTreeGives (treeWords bookA) p1 1 .said .number) 1 0 
 abbrev first-word : SimplifyOutcome → ℕ
 first-word o = getD (o .out) 0 0
 
-hands-back : (said : Answered) (steps : ℕ) → handsBack said steps bookA (treeWords bookA) firstTerm 1000 6 ≡ simplifyGives bookA (treeWords bookA) firstTerm 1000 6 → ⊥
+hands-back : (said : Answered) (steps visits : ℕ) → handsBack said steps visits bookA (treeWords bookA) firstTerm 1000 6 ≡ simplifyGives bookA (treeWords bookA) firstTerm 1000 6 → ⊥
 unfolding handsBack
-hands-back said steps e =
+hands-back said steps visits e =
     apart (getD (padded 6 firstTerm) 0 0) (first-word (simplifyGives bookA (treeWords bookA) firstTerm 1000 6)) 131074 7 (runs-computed .0) (runs-computed .1) (λ z. omega (arith, z)) (ap first-word e)
 
 one-step : oneStep bookA (treeWords bookA) firstTerm 1000 6 ≡ simplifyGives bookA (treeWords bookA) firstTerm 1000 6 → ⊥
@@ -92,6 +94,21 @@ wrong-fronts =
       limits-first = λ e. apart _ _ 15 18 (c .10) (c .11) (λ z. omega (arith, z)) (ap (λ (o : RewriteRootOutcome). o .said .number) e);
     }
 
+-- ---- the nodes visited
+abbrev run-visits : SimplifyOutcome → ℕ
+run-visits o = o .visits
+
+wrong-visits : WrongVisits
+unfolding matchWithoutLast
+wrong-visits =
+    let c = visits-computed in
+    record {
+      match-without-last = λ e. apart _ _ 2 3 (ap (λ (n : ℕ). n - 1) (c .0)) (c .0) (λ z. omega (arith, z)) (ap (λ (o : MatchTreeOutcome). o .visits) e);
+      without-last = λ e. apart _ _ 8 12 (c .2) (c .1) (λ z. omega (arith, z)) (ap run-visits e);
+      settled-once = λ e. apart _ _ 11 12 (c .3) (c .1) (λ z. omega (arith, z)) (ap run-visits e);
+      without-last-search = λ e. apart _ _ 10 12 (c .4) (c .1) (λ z. omega (arith, z)) (ap run-visits e);
+    }
+
 pub all-shut-out : AllShutOut
 all-shut-out =
     record {
@@ -110,4 +127,5 @@ all-shut-out =
       passes-earlier-row = wrong-tree passesEarlierRow exchanged p6 passes-earlier-row;
       wrong-repairs = wrong-repairs;
       wrong-fronts = wrong-fronts;
+      wrong-visits = wrong-visits;
     }

@@ -1,7 +1,7 @@
 -- After a refusal each lent output holds zeros: a refusal writes none, and what had no room is answered with 13 and left as zeros.
 use mathlib.Core.Path.{_≡_, refl, ap, _∙_}
 use mathlib.Core.Bool.{Bool, true, false}
-use mathlib.Core.List.{List}
+use mathlib.Core.List.{List, []}
 use Prim.Native.Nat.{ℕ, _≤_, _<_}
 use native.Mathlib.Omega.{arith}
 use lib.Dec.{leb}
@@ -63,30 +63,30 @@ built-zeros room (built t) h =
 -- ---- simplifying
 module _ (room : ℕ) where
   run-zeros : (book tree : List ℕ) (budget : ℕ) (t : Row) (run : Run) → RunIs book tree budget t run → 10 ≤ numberOf (simplifyAnswer room run) → simplifyWords room run ≡ replicate room 0
-  run-zeros book tree budget t (Stopped n a) i h = stopped-run room n a .1
-  run-zeros book tree budget t (Ended n a v) i h =
-      let q = ended-run room n a v in
-      q .1 ∙ padded-zeros room (words v) a (low (i .2)) (moved (simplifyAnswer room (Ended n a v)) (pick (leb (length (words v)) room) a Short) (q .0) h)
+  run-zeros book tree budget t (Stopped trace last a) i h = stopped-run room trace last a .1
+  run-zeros book tree budget t (Ended trace last a v) i h =
+      let q = ended-run room trace last a v in
+      q .1 ∙ padded-zeros room (words v) a (low (i .2)) (moved (simplifyAnswer room (Ended trace last a v)) (pick (leb (length (words v)) room) a Short) (q .0) h)
     where
-      low : EndsAs book tree budget n v a → numberOf a < 10
+      low : EndsAs book tree budget (length trace) v a → numberOf a < 10
       low (rests e x) = rw e (omega arith)
       low (used e m at f x) = rw e (omega arith)
 
-  stopped-zeros : (run : Run) (n : ℕ) (a : Answer) → run ≡ Stopped n a → simplifyWords room run ≡ replicate room 0
-  stopped-zeros run n a e = ap (simplifyWords room) e ∙ stopped-run room n a .1
+  stopped-zeros : (run : Run) (a : Answer) → run ≡ Stopped [] 0 a → simplifyWords room run ≡ replicate room 0
+  stopped-zeros run a e = ap (simplifyWords room) e ∙ stopped-run room [] 0 a .1
 
   simplify-zeros : (book tree term : List ℕ) (budget : ℕ) → 10 ≤ numberOf (simplifyAnswer room (simplify book tree budget term)) → simplifyWords room (simplify book tree budget term) ≡ replicate room 0
   simplify-zeros book tree term budget h = with-book (checkBook book) refl
     where
       with-term : checkBook book ≡ Good → (c : Checked) → check termLimits term ≡ c → simplifyWords room (simplify book tree budget term) ≡ replicate room 0
-      with-term g (Bad at) e = stopped-zeros (simplify book tree budget term) 0 (BadTerm at) (simplify-bad-term book tree term budget g at e)
+      with-term g (Bad at) e = stopped-zeros (simplify book tree budget term) (BadTerm at) (simplify-bad-term book tree term budget g at e)
       with-term g Good e =
           let q = simplify-runs book tree term budget g e in
           ap (simplifyWords room) q
           ∙ run-zeros book tree budget (treeOf term) (simplifyBy book tree budget (treeOf term)) (run-is book tree budget (treeOf term)) (moved _ _ (ap (simplifyAnswer room) q) h)
 
       with-book : (c : Checked) → checkBook book ≡ c → simplifyWords room (simplify book tree budget term) ≡ replicate room 0
-      with-book (Bad at) e = stopped-zeros (simplify book tree budget term) 0 (BadBook at) (simplify-bad-book book tree term budget at e)
+      with-book (Bad at) e = stopped-zeros (simplify book tree budget term) (BadBook at) (simplify-bad-book book tree term budget at e)
       with-book Good e = with-term e (check termLimits term) refl
 
 -- what is refused is not done

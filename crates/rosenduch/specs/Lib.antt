@@ -4,5 +4,7 @@ pub mod Demands
 pub mod Repairs
 pub mod Marked
 pub mod Matching
+pub mod Inputs
 pub mod WrongFronts
+pub mod WrongVisits
 pub mod WrongPrograms

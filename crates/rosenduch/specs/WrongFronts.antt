@@ -63,7 +63,7 @@ unfoldable pub silentRule : (book : List ℕ) (number : ℕ) (term : List ℕ) (
 silentRule book number term room = let o = matchRuleGives book number term room in matchRuleCame (o .said) 0 (o .bodies) (o .lengths)
 
 unfoldable pub silentTree : (tree term : List ℕ) (room : ℕ) → MatchTreeOutcome
-silentTree tree term room = let o = matchTreeGives tree term room in matchTreeCame (o .said) (o .rule) 0 (o .bodies) (o .lengths)
+silentTree tree term room = let o = matchTreeGives tree term room in matchTreeCame (o .said) (o .rule) 0 (o .visits) (o .bodies) (o .lengths)
 
 -- ==== rewriting, with another judgement of what is written and of the arguments set aside, by their number
 abbrev pub Judging : Type 0
@@ -86,7 +86,7 @@ judgedBook judge book tree term (Refused a) = refused a
 unfoldable pub rewritesBy : Judging → (book tree term : List ℕ) (room : ℕ) → RewriteRootOutcome
 rewritesBy judge book tree term room =
     let b = judgedBook judge book tree term (accept book) in
-    rewriteRootCame (answered (buildAnswer room b)) (buildWords room b)
+    rewriteRootCame (answered (buildAnswer room b)) (rewriteRootGives book tree term room .visits) (buildWords room b)
 
 -- arguments put first
 unfoldable pub withFirst : Row → Row → Row

@@ -18,7 +18,7 @@ use Rattle.term.specs.Part.{sameWords, padded}
 use Rattle.book.specs.declared.accept.Accepted.{Accepted}
 use Rattle.book.specs.declared.accept.Accepted.the-variants.{Sound, Refused}
 use Rattle.book.specs.Accept.{accept}
-use Rattle.book.specs.Marked.{s, l, v, m, bookA, bookB}
+use Rattle.book.specs.Marked.{s, bookA, bookB}
 use Rattle.fit.specs.Left.{Left, end, hole, part}
 use Rattle.fit.specs.Fit.{Found, bodyThen, bothFound, onlyIf, found, bodyIn, allSame, agreed}
 use Rattle.fit.specs.Constraint.{Place, Constraint}
@@ -30,11 +30,13 @@ use Rattle.tree.specs.Compile.{heads, defaultRows, entering, nodeOf, step, book
 use Rattle.tree.specs.Root.{rootHeads, rootCaseRows}
 use Rattle.tree.specs.Layout.{layout, treeWords}
 use Rattle.compiler.specs.Compiled.{CompileOutcome, compileCame, compileGives}
-use Rattle.walk.specs.ByTree.{MatchTreeOutcome, matchTreeCame, matchTreeGives}
+use Rattle.walk.specs.ByTree.{MatchTreeOutcome, matchTreeVisits, matchTreeCame, matchTreeGives}
 use Rattle.steps.specs.Simplify.{SimplifyOutcome, simplifyCame, simplifyGives}
 use Rattle.mend.specs.WrongRepairs.{WrongRepairs}
 use Rattle.rosenduch.specs.Matching.{byBook}
+use Rattle.rosenduch.specs.Inputs.{p1, p3, p6, p7, p10, inLoops, firstTerm, exchanged, twoRows, secondFits}
 use Rattle.rosenduch.specs.WrongFronts.{WrongFronts}
+use Rattle.rosenduch.specs.WrongVisits.{WrongVisits}
 
 -- ==== matching one rule
 
@@ -109,11 +111,11 @@ secondUncounted book number term room = matchedCame room (byBook matchingUncount
 
 -- one that answers only rule 0
 unfoldable pub onlyRule0 : (tree term : List ℕ) (room : ℕ) → MatchTreeOutcome
-onlyRule0 tree term room = let o = matchTreeGives tree term room in matchTreeCame (o .said) 0 (o .aside) (o .bodies) (o .lengths)
+onlyRule0 tree term room = let o = matchTreeGives tree term room in matchTreeCame (o .said) 0 (o .aside) (o .visits) (o .bodies) (o .lengths)
 
 -- or only "none"
 unfoldable pub onlyNone : (tree term : List ℕ) (room : ℕ) → MatchTreeOutcome
-onlyNone tree term room = matchTreeCame (answered NoFit) 0 0 (replicate room 0) (replicate 16 0)
+onlyNone tree term room = matchTreeCame (answered NoFit) 0 0 (matchTreeVisits tree term) (replicate room 0) (replicate 16 0)
 
 -- ==== compiling
 
@@ -193,56 +195,16 @@ pub record WrongTree (wrong : (book : List ℕ) (room : ℕ) → CompileOutcome)
 -- ==== simplifying
 
 -- a simplifier that hands the term back
-unfoldable pub handsBack : Answered → ℕ → (book tree term : List ℕ) (budget room : ℕ) → SimplifyOutcome
-handsBack said steps book tree term budget room = simplifyCame said steps (padded room term)
+unfoldable pub handsBack : Answered → (steps visits : ℕ) → (book tree term : List ℕ) (budget room : ℕ) → SimplifyOutcome
+handsBack said steps visits book tree term budget room = simplifyCame said steps visits (padded room term)
 
 -- one that makes one step and pretends the rest
 unfoldable pub oneStep : (book tree term : List ℕ) (budget room : ℕ) → SimplifyOutcome
-oneStep book tree term budget room = let o = simplifyGives book tree term budget room in simplifyCame (o .said) (o .steps) (simplifyGives book tree term 1 room .out)
+oneStep book tree term budget room = let o = simplifyGives book tree term budget room in simplifyCame (o .said) (o .steps) (o .visits) (simplifyGives book tree term 1 room .out)
 
 -- one that invents its step count
 unfoldable pub inventsCount : ℕ → (book tree term : List ℕ) (budget room : ℕ) → SimplifyOutcome
-inventsCount count book tree term budget room = let o = simplifyGives book tree term budget room in simplifyCame (o .said) count (o .out)
-
--- ==== inputs
-
--- P1, P3, P6, P7, P10, and the program's first term
-unfoldable pub p1 : List ℕ
-p1 = s 2 2 ∷ s 7 0 ∷ s 7 0 ∷ []
-
-unfoldable pub p3 : List ℕ
-p3 = s 3 1 ∷ l ∷ v 2 ∷ []
-
-unfoldable pub p6 : List ℕ
-p6 = s 3 1 ∷ l ∷ s 4 1 ∷ s 7 0 ∷ []
-
-unfoldable pub p7 : List ℕ
-p7 = s 6 2 ∷ l ∷ v 1 ∷ l ∷ l ∷ v 2 ∷ []
-
-unfoldable pub p10 : List ℕ
-p10 = s 6 2 ∷ l ∷ v 2 ∷ l ∷ l ∷ v 2 ∷ []
-
--- P7 with a loop in each part that names its own stop
-unfoldable pub inLoops : List ℕ
-inLoops = s 6 2 ∷ l ∷ l ∷ v 1 ∷ l ∷ l ∷ l ∷ v 1 ∷ []
-
-unfoldable pub firstTerm : List ℕ
-firstTerm = s 2 2 ∷ s 3 1 ∷ l ∷ s 7 0 ∷ s 7 0 ∷ []
-
--- book A with rules 1 and 2 exchanged
-unfoldable pub exchanged : List ℕ
-exchanged = 3
-    ∷ 1 ∷ 3 ∷ 1 ∷ s 2 2 ∷ m 0 0 ∷ m 0 0 ∷ m 0 0
-    ∷ 1 ∷ 5 ∷ 5 ∷ s 3 1 ∷ l ∷ s 4 1 ∷ m 0 1 ∷ v 1 ∷ s 4 1 ∷ s 3 1 ∷ l ∷ m 0 1 ∷ v 1
-    ∷ 1 ∷ 3 ∷ 1 ∷ s 3 1 ∷ l ∷ m 0 0 ∷ m 0 0
-    ∷ []
-
--- `s1.2 s2.0 s3.0` and `s1.2 m0.0 s4.0`, and a term that fits the second alone, in the first's case
-unfoldable pub twoRows : List ℕ
-twoRows = 2 ∷ 0 ∷ 3 ∷ 1 ∷ s 1 2 ∷ s 2 0 ∷ s 3 0 ∷ s 2 0 ∷ 1 ∷ 3 ∷ 1 ∷ s 1 2 ∷ m 0 0 ∷ s 4 0 ∷ m 0 0 ∷ []
-
-unfoldable pub secondFits : List ℕ
-secondFits = s 1 2 ∷ s 2 0 ∷ s 4 0 ∷ []
+inventsCount count book tree term budget room = let o = simplifyGives book tree term budget room in simplifyCame (o .said) count (o .visits) (o .out)
 
 -- ==== the claim
 pub record AllShutOut : Type 0 where
@@ -254,7 +216,7 @@ pub record AllShutOut : Type 0 where
   pub only-rule-0 : onlyRule0 (treeWords bookA) p3 1 ≡ matchTreeGives (treeWords bookA) p3 1 → ⊥
   pub only-none : onlyNone (treeWords bookA) p1 1 ≡ matchTreeGives (treeWords bookA) p1 1 → ⊥
   -- "A simplifier that hands the term back", whatever it says and counts
-  pub hands-back : (said : Answered) (steps : ℕ) → handsBack said steps bookA (treeWords bookA) firstTerm 1000 6 ≡ simplifyGives bookA (treeWords bookA) firstTerm 1000 6 → ⊥
+  pub hands-back : (said : Answered) (steps visits : ℕ) → handsBack said steps visits bookA (treeWords bookA) firstTerm 1000 6 ≡ simplifyGives bookA (treeWords bookA) firstTerm 1000 6 → ⊥
   -- "that makes one step and pretends the rest"
   pub one-step : oneStep bookA (treeWords bookA) firstTerm 1000 6 ≡ simplifyGives bookA (treeWords bookA) firstTerm 1000 6 → ⊥
   -- "or that invents its step count"
@@ -275,3 +237,5 @@ pub record AllShutOut : Type 0 where
   pub wrong-repairs : WrongRepairs
   -- those of E2: counts equal at the root too, a rule that fits fewer arguments, nothing said of the arguments, arguments put first or forgotten, 15 before 18
   pub wrong-fronts : WrongFronts
+  -- those of E7: the last node left out, an offset that the root settles counted once, the last search left out
+  pub wrong-visits : WrongVisits

@@ -17,6 +17,7 @@ ghost use Rattle.text.specs.BookText.{readBookCame, readBookGives, writeBookCam
 use book::accept::Accepted;
 use compiler::compile::Compiled;
 use fit::rules::RuleMatch;
+use steps::rewrite::Rewritten;
 use steps::simplify::Simplified;
 use term::answer::Answer;
 use term::check::Checked;
@@ -81,29 +82,30 @@ pub fn compile(book: &[u32], out: &mut [u32]) -> Compiled
 
 // Matches a term by a tree, whole or damaged. Done, with the rule that the tree names, how many of the term's last arguments are set aside,
 // the bodies in variable order, zeros after them, and their lengths; NoFit where it names none; else BadTerm, Damaged with a node's address,
-// or Short where the bodies have no room.
+// or Short where the bodies have no room. With the nodes that the walk visited, none before it.
 pub fn match_tree(
     tree: &[u32],
     term: &[u32],
     bodies: &mut [u32],
     lengths: &mut [u32; 16],
 ) -> TreeMatch
-    ensures { λ r. ⌜ matchTreeCame (answered (r .answer)) (r .rule) (r .aside) (now (bodies .exit)) (now (lengths .exit)) ≡ matchTreeGives (now (tree .entry)) (now (term .entry)) (length (now (bodies .entry))) ⌝ }
+    ensures { λ r. ⌜ matchTreeCame (answered (r .answer)) (r .rule) (r .aside) (r .visits) (now (bodies .exit)) (now (lengths .exit)) ≡ matchTreeGives (now (tree .entry)) (now (term .entry)) (length (now (bodies .entry))) ⌝ }
 {
     walk::by_tree::match_tree(tree, term, bodies, lengths)
 }
 
 // Rewrites a term at its root by the rule that the tree names; the arguments set aside stand at the end of what is written. Done, with the new
 // term and zeros after it; NoFit where it names none; else BadBook, BadTerm, Damaged, CannotTake with the number of the arguments where what is
-// written is no symbol with room for them, Over where the new term is over a limit, or Short.
-pub fn rewrite_root(book: &[u32], tree: &[u32], term: &[u32], out: &mut [u32]) -> Answer
-    ensures { λ r. ⌜ rewriteRootCame (answered r) (now (out .exit)) ≡ rewriteRootGives (now (book .entry)) (now (tree .entry)) (now (term .entry)) (length (now (out .entry))) ⌝ }
+// written is no symbol with room for them, Over where the new term is over a limit, or Short. With the nodes that the walk visited, none before it.
+pub fn rewrite_root(book: &[u32], tree: &[u32], term: &[u32], out: &mut [u32]) -> Rewritten
+    ensures { λ r. ⌜ rewriteRootCame (answered (r .answer)) (r .visits) (now (out .exit)) ≡ rewriteRootGives (now (book .entry)) (now (tree .entry)) (now (term .entry)) (length (now (out .entry))) ⌝ }
 {
     steps::rewrite::rewrite_root(book, tree, term, out)
 }
 
 // Simplifies a term by steps, at most so many as the budget. Done where no rule fits anywhere, BudgetUsed where one still does, each with the
-// term so far, zeros after it, and the steps made; else BadBook, BadTerm, Damaged, CannotTake, Over or Short, with the steps completed.
+// term so far, zeros after it, and the steps made; else BadBook, BadTerm, Damaged, CannotTake, Over or Short, with the steps completed. With the
+// nodes that all walks of all steps and of the last search visited.
 pub fn simplify(
     book: &[u32],
     tree: &[u32],
@@ -111,7 +113,7 @@ pub fn simplify(
     budget: u16,
     out: &mut [u32],
 ) -> Simplified
-    ensures { λ r. ⌜ simplifyCame (answered (r .answer)) (r .steps) (now (out .exit)) ≡ simplifyGives (now (book .entry)) (now (tree .entry)) (now (term .entry)) budget (length (now (out .entry))) ⌝ }
+    ensures { λ r. ⌜ simplifyCame (answered (r .answer)) (r .steps) (r .visits) (now (out .exit)) ≡ simplifyGives (now (book .entry)) (now (tree .entry)) (now (term .entry)) budget (length (now (out .entry))) ⌝ }
 {
     steps::simplify::simplify(book, tree, term, budget, out)
 }

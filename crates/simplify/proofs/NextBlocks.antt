@@ -35,8 +35,8 @@ front : (ws rest all : List ℕ) → IsTerm ws → all ≡ ws ++ rest → take (
 front ws rest all i e = rw (e, term-ends ws rest i) (take-at ws rest (length ws) refl)
 
 result-words : (run : Run) (result : List ℕ) → RunGives 4096 run → numberOf (simplifyAnswer 4096 run) < 10 → result ≡ simplifyWords 4096 run → take (partEnd result) result ≡ runWords run
-result-words (Stopped n a) result g h e = let z : numberOf a < 10 = rw (g .0) at h in absurd (omega (arith, g .1))
-result-words (Ended n a t) result g h e = front (words t) (replicate (4096 - length (words t)) 0) result (g .2) (e ∙ g .3)
+result-words (Stopped trace last a) result g h e = let z : numberOf a < 10 = rw (g .0) at h in absurd (omega (arith, g .1))
+result-words (Ended trace last a t) result g h e = front (words t) (replicate (4096 - length (words t)) 0) result (g .2) (e ∙ g .3)
 
 -- ---- the block
 module _ (number : ℕ) (run : Run) (a : Answer) (steps : ℕ) (e : a ≡ simplifyAnswer 4096 run) (f : steps ≡ simplifySteps run) where

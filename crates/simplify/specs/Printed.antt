@@ -46,8 +46,8 @@ abbrev pub resultText : Answer → List ℕ → List ℕ
 resultText a ws = pick (refused a) dashLine (lineText ws)
 
 abbrev pub runWords : Run → List ℕ
-runWords (Stopped n a) = []
-runWords (Ended n a t) = words t
+runWords (Stopped trace last a) = []
+runWords (Ended trace last a t) = words t
 
 -- 4,096 words are room for every term
 abbrev pub termBlock : ℕ → Run → List ℕ

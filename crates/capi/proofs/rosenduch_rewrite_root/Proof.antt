@@ -5,7 +5,7 @@ use Rattle.capi.proofs.rosenduch_rewrite_root.Statement.{statement}
 use Rattle.capi.proofs.rosenduch_rewrite_root.Tie as tie
 
 returns : tie.Need-returns
-returns c = rewrite-root-told _ _ (c .say .ensures) _ _ (c .before .before .before .before .rewrite-root .ensures)
+returns c = rewrite-root-told _ _ (c .say .ensures) _ _ _ (c .before .before .before .before .rewrite-root .ensures)
 
 pub rosenduch-rewrite-root-spec : {M : Type 1} → statement M
 rosenduch-rewrite-root-spec = tie.close (tie.spec (λ c κs. search needs) (λ c κs. search needs) (λ c. search needs) returns)
