@@ -1,15 +1,12 @@
 -- The wrong programs are shut out: of each, what it gives on its input and what the definition gives differ in one number that was computed.
-use mathlib.Core.Path.{_≡_, sym, ap, _∙_}
+use mathlib.Core.Path.{ap}
 use Prim.Native.Nat.{ℕ}
 use native.Mathlib.Omega.{arith}
 use lib.ListN.{getD}
+use Rattle.term.proofs.Laws.{apart}
 use Rattle.mend.specs.Repair.{RepairBookOutcome, repairBookGives}
 use Rattle.mend.specs.WrongRepairs.{keeps65, comparesKept, newFirst, dropsAfterBad, firstBad, sixtyFive, WrongRepairs}
 use Rattle.mend.proofs.Computed.{first-bad-computed, sixty-five-computed}
-
--- two numbers that are known and differ are not equal
-apart : (n m i j : ℕ) → n ≡ i → m ≡ j → (i ≡ j → ⊥) → n ≡ m → ⊥
-apart n m i j p q d e = d (sym p ∙ e ∙ q)
 
 abbrev byteAt : ℕ → RepairBookOutcome → ℕ
 byteAt at o = getD (o .out) at 0

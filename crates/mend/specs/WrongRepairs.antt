@@ -27,10 +27,10 @@ keptBy [] rules = []
 keptBy (b ∷ marks) [] = []
 keptBy (b ∷ marks) (rule ∷ rules) = pick b (rule ∷ keptBy marks rules) (keptBy marks rules)
 
-unfoldable pub notesBy : (old new : ℕ) → List Bool → List Note
-notesBy old new [] = []
-notesBy old new (true ∷ marks) = kept old new ∷ notesBy (suc old) (suc new) marks
-notesBy old new (false ∷ marks) = dropped old ∷ notesBy (suc old) new marks
+unfoldable pub notesOf : (old new : ℕ) → List Bool → List Note
+notesOf old new [] = []
+notesOf old new (true ∷ marks) = kept old new ∷ notesOf (suc old) (suc new) marks
+notesOf old new (false ∷ marks) = dropped old ∷ notesOf (suc old) new marks
 
 abbrev pub givesText : (room : ℕ) (book text : List ℕ) → RepairBookOutcome
 givesText room book text =
@@ -46,7 +46,7 @@ byMail gives room (badMail at) = repairBookCame (answered (BadText at)) (replica
 
 unfoldable pub choosing : Choice → (text : List ℕ) (room : ℕ) → RepairBookOutcome
 choosing choice text room =
-    byMail (λ stated rules. writes room (bookOf (keptBy (choice rules) rules)) (notesBy 0 0 (choice rules)) (wasText stated (length rules))) room (mailSaid text)
+    byMail (λ stated rules. writes room (bookOf (keptBy (choice rules) rules)) (notesOf 0 0 (choice rules)) (wasText stated (length rules))) room (mailSaid text)
 
 -- ---- the programs
 -- one that keeps 65

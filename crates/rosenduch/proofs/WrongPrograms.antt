@@ -8,7 +8,7 @@ use Rattle.term.specs.declared.answer.Answer.{Answer}
 use Rattle.term.specs.declared.answer.Answer.the-variants.{Done}
 use Rattle.term.specs.Answer.{Answered}
 use Rattle.term.specs.Part.{padded}
-use Rattle.term.proofs.Laws.{answered-same}
+use Rattle.term.proofs.Laws.{answered-same, apart}
 use Rattle.book.specs.Marked.{bookA}
 use Rattle.fit.specs.Match.{MatchRuleOutcome, matchRuleGives}
 use Rattle.tree.specs.Layout.{treeWords}
@@ -22,10 +22,6 @@ use Rattle.rosenduch.specs.WrongVisits.{matchWithoutLast, WrongVisits}
 use Rattle.rosenduch.specs.WrongPrograms.{onlyRefuses, sameBody, onlyRule0, onlyNone, handsBack, oneStep, inventsCount, dropsRow, passesEarlierRow, WrongTree, AllShutOut}
 use Rattle.rosenduch.specs.Inputs.{p1, p3, p6, firstTerm, twoRows, secondFits, exchanged}
 use Rattle.rosenduch.proofs.Computed.{matches-computed, trees-computed, runs-computed, compilers-computed, fronts-computed, visits-computed}
-
--- two numbers that are known and differ are not equal
-apart : (n m i j : ℕ) → n ≡ i → m ≡ j → (i ≡ j → ⊥) → n ≡ m → ⊥
-apart n m i j p q d e = d (sym p ∙ e ∙ q)
 
 abbrev second : MatchRuleOutcome → ℕ
 second o = getD (o .bodies) 1 0

@@ -1,8 +1,8 @@
 -- The law of renumbering: body to term and back, term to body and back, and what a body and a term keep of each other.
-use mathlib.Core.Path.{_≡_, refl, sym, ap, ap₂, _∙_}
-use mathlib.Core.Bool.{Bool, true, false, _&&_}
-use mathlib.Core.List.{List, [], _∷_, _++_}
-use mathlib.Core.Option.{Option, none, some}
+use mathlib.Core.Path.{_≡_, refl, ap, _∙_}
+use mathlib.Core.Bool.{Bool, true, false}
+use mathlib.Core.List.{List}
+use mathlib.Core.Option.{none, some}
 use mathlib.Core.Logic.{_↔_}
 use Prim.Native.Nat.{ℕ, zero, suc, _+_, _-_, _≤_, _<_}
 use native.Mathlib.Omega.{arith}
@@ -11,10 +11,10 @@ use lib.ListN.{length, getD}
 use borrow.Author.Tests.{leb-true, leb-false, le-leb, lt-leb}
 use Rattle.term.specs.Word.{pick}
 use Rattle.term.specs.Row.{Row, width, words, nesting, ranks, Formed}
-use Rattle.term.specs.Renumber.{position, Listed, GoodList, three, idTerm, parameter, idBody, renumber, named, toTerm, closed, toBody, within, idTermWithin, idsWithin}
+use Rattle.term.specs.Renumber.{position, Listed, GoodList, three, idTerm, parameter, idBody, renumber, toTerm, closed, toBody, within, idTermWithin, idsWithin}
 use Rattle.term.proofs.Words.{never}
 use Rattle.term.proofs.Lists.{position-is, position-at, listed-range, at-most, all-there}
-use Rattle.term.proofs.Renumbers.{Every, implied, both, everywhere, shallow, agree, unmoved, twice, named-true, true-named, every-renumber, IsId, formed-ids, formed-renumber, formed-renumbered, width-renumber, length-renumber, nesting-renumber, ranks-renumber}
+use Rattle.term.proofs.Renumbers.{implied, both, everywhere, shallow, agree, unmoved, twice, named-true, true-named, every-renumber, IsId, formed-ids, formed-renumber, formed-renumbered, width-renumber, length-renumber, nesting-renumber, ranks-renumber}
 
 -- ---- ids: the three cases, as laws
 pub data Case (e u i : ℕ) : Type 0 where

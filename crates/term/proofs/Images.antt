@@ -10,7 +10,6 @@ use lib.ListN.{length, getD}
 use borrow.Author.Tests.{le-leb, lt-leb, leb-true}
 use Rattle.term.specs.declared.image.Way.{Way}
 use Rattle.term.specs.declared.image.Way.the-variants.{ToBody, ToTerm}
-use Rattle.term.specs.declared.image.Image.{Image}
 use Rattle.term.specs.declared.image.Image.the-variants.{Word, None}
 use Rattle.term.specs.Word.{Head, symbol, abstraction, variable, pattern, pick, kind, rank, count, ident, word, InTable, identOf, kindOf, headOf}
 use Rattle.term.specs.Check.{rankOr}

@@ -45,7 +45,7 @@ pub use Rattle.term.proofs.Imaged.{below-wrote, below-none, every-nothi
 -- Two results that meet one promise are equal.
 pub use Rattle.term.proofs.Settled.{settled}
 -- An answer is told by its number and place; what checking a term gives is what it answers.
-pub use Rattle.term.proofs.Answering.{answered-same, check-term-is}
+pub use Rattle.term.proofs.Answering.{answered-same, apart, check-term-is}
 -- Zeros are 0 everywhere.
 pub use Rattle.term.proofs.Leavings.{zero-at}
 -- Renumbering, head by head; every variable of a row, node by node.
@@ -54,3 +54,10 @@ pub use Rattle.term.proofs.Heads.{renumber-symbol, renumber-abstraction
 pub use Rattle.term.proofs.Above.{word-variable, word-pattern, pattern-table, inside-next, listed-more, past-step, part-past, part-short, same-none, same-more}
 -- The words of the other heads, and the table's row of a symbol.
 pub use Rattle.term.proofs.Above.{ident-symbol, word-symbol, word-abstraction, symbol-table, symbol-few}
+-- The table of a term: its clauses, an entry for each offset, and to read it at an offset is to pass over the part there.
+pub use Rattle.term.proofs.Tables.{lengths-nothing, lengths-node, lengths-join, lengths-many, length-at}
+-- The same of any words, by their counts alone, and that no part ends past the words.
+pub use Rattle.term.proofs.Tables.{part-lengths-many, part-length-at, part-lengths-drop, joined-lengths, lengths-parts}
+pub use Rattle.term.proofs.Measures.{past-within}
+-- What the operations on tables give; two tables agree just where they are the same.
+pub use Rattle.term.proofs.TableAnswers.{term-table, lengths-is, check-lengths-is, agreed-same, same-agreed, lengths-settled, check-lengths-settled}

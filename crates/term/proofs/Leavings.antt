@@ -1,14 +1,13 @@
 -- What is left in a lent slice, by its definition: the words and zeros after them where they fit, else zeros.
-use mathlib.Core.Path.{_≡_, refl, sym, _∙_}
+use mathlib.Core.Path.{_≡_, refl}
 use mathlib.Core.Bool.{Bool, true, false}
 use mathlib.Core.List.{List, _++_}
 use mathlib.Core.Option.{Option, none, some}
 use Prim.Native.Nat.{ℕ, zero, suc, _-_, _≤_, _<_}
 use lib.Dec.{leb}
 use lib.ListN.{length, getD, replicate}
-use borrow.Author.Tests.{le-leb, lt-leb, leb-true, leb-false}
-use Rattle.term.specs.declared.part.Written.{Written}
-use Rattle.term.specs.declared.part.Written.the-variants.{Words, NoBody, Short}
+use borrow.Author.Tests.{le-leb, lt-leb, leb-true}
+use Rattle.term.specs.declared.part.Written.the-variants.{Words, Short}
 use Rattle.term.specs.Word.{pick}
 use Rattle.term.specs.Row.{Row, words}
 use Rattle.term.specs.Part.{written, padded, bodyAnswer, bodyWords}

@@ -8,6 +8,8 @@ mod Renumbers
 mod Bodies
 mod Near
 mod Parts
+mod Tables
+mod Measures
 mod Images
 mod Walks
 mod Answers
@@ -21,4 +23,5 @@ mod Clauses
 mod Computed
 mod Settled
 mod Answering
+mod TableAnswers
 pub mod Laws

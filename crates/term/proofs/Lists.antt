@@ -1,5 +1,5 @@
 -- The list of a pattern variable: positions, and that distinct ids within 1..d are at most d.
-use mathlib.Core.Path.{_≡_, refl, sym, ap, _∙_}
+use mathlib.Core.Path.{_≡_, refl, sym, _∙_}
 use mathlib.Core.Bool.{Bool, true, false, _&&_}
 use mathlib.Core.List.{List, [], _∷_}
 use mathlib.Core.Logic.{_≢_}
@@ -11,7 +11,7 @@ use lib.ListN.{length, getD, take, drop, length-drop, drop-of-length-le}
 use lib.Seq.{drop-cons, take-all}
 use borrow.Author.Tests.{eqb-true, eqb-false, leb-true, eq-eqb, ne-eqb, le-leb, lt-leb}
 use Rattle.term.specs.Renumber.{position, positionB, Listed, GoodList, listed, goodList}
-use Rattle.term.proofs.Words.{never, and-left, and-right, and-both}
+use Rattle.term.proofs.Words.{and-left, and-right, and-both}
 
 -- a position that is there
 abbrev Here : ℕ → List ℕ → ℕ → Type 0

@@ -1,14 +1,12 @@
 -- A row with a term's words is that term, also where its ids might pass 65,535: a word says its kind as long as the id is below 16,777,216.
 use mathlib.Core.Path.{_≡_, refl, sym, ap, ap₂, _∙_}
-use mathlib.Core.List.{List, [], _∷_, _++_, append-assoc}
-use Prim.Native.Nat.{ℕ, zero, suc, _+_, _-_, _≤_, _<_, max}
+use mathlib.Core.List.{List, _++_, append-assoc}
+use Prim.Native.Nat.{ℕ, _+_, _-_, _≤_, _<_}
 use native.Mathlib.Omega.{arith}
 use lib.ListN.{length}
 use Rattle.term.specs.Word.{Head, symbol, abstraction, variable, pattern, kind, rank, count, ident, word, InTable}
 use Rattle.term.specs.Row.{Row, nothing, node, width, words, nesting, ranks, Formed, _⧺_}
 use Rattle.term.specs.Renumber.{GoodList, idTerm, inside, renumberHead, renumber, toTerm}
-use Rattle.term.proofs.Words.{never}
-use Rattle.term.proofs.Rows.{width-join}
 use Rattle.term.proofs.Lists.{listed-range}
 use Rattle.term.proofs.Renumbers.{Every, EveryHead, implied, both, shallow, IsId, formed-ids, width-renumber, count-renumber}
 use Rattle.term.proofs.Bodies.{Case, own, inner, outside, case-of, term-own, term-inner, term-outside}

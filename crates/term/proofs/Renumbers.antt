@@ -1,14 +1,12 @@
 -- Renumbering: a row keeps its shape, and what it does to a row is what it does to each variable.
-use mathlib.Core.Path.{_≡_, refl, sym, ap, ap₂, _∙_}
-use mathlib.Core.Bool.{Bool, true, false, _&&_}
-use mathlib.Core.List.{List, [], _∷_, _++_}
-use Prim.Native.Nat.{ℕ, zero, suc, _+_, _-_, _≤_, _<_, max}
+use mathlib.Core.Path.{_≡_, refl, sym, ap, _∙_}
+use mathlib.Core.Bool.{true}
+use Prim.Native.Nat.{ℕ, suc, _+_, _≤_, _<_, max}
 use native.Mathlib.Omega.{arith}
 use native.Mathlib.Nat.{le-max-left, le-max-right}
-use lib.Dec.{leb}
 use lib.ListN.{length, length-append}
 use borrow.Author.Tests.{leb-true, le-leb}
-use Rattle.term.specs.Word.{Head, symbol, abstraction, variable, pattern, rank, count, word, InTable}
+use Rattle.term.specs.Word.{Head, symbol, abstraction, variable, pattern, rank, count, InTable}
 use Rattle.term.specs.Row.{Row, nothing, node, width, words, nesting, ranks, Formed, _⧺_}
 use Rattle.term.specs.Renumber.{inside, renumberHead, renumber, namedHead, named}
 use Rattle.term.proofs.Words.{and-left, and-right, and-both}

@@ -2,13 +2,12 @@
 use mathlib.Core.Path.{_≡_, refl, sym, ap, ap₂, _∙_}
 use mathlib.Core.List.{List, [], _∷_, _++_, append-assoc}
 use mathlib.Core.Option.{Option, none, some}
-use Prim.Native.Nat.{ℕ, zero, suc, _+_, _≤_, _<_, max}
+use Prim.Native.Nat.{ℕ, zero, suc, _+_, _≤_, max}
 use native.Mathlib.Omega.{arith}
 use native.Mathlib.Nat.{suc-add, zero-add, add-zero}
-use lib.ListN.{length, length-append}
-use Rattle.term.specs.Word.{Head, count, word, InTable, headOf}
+use Rattle.term.specs.Word.{Head, count, headOf}
 use Rattle.term.specs.Row.{Row, nothing, node, width, words, nesting, ranks, Formed, _⧺_, firsts, others, Got, gotNode, countO, read}
-use Rattle.term.proofs.Words.{never, head-word, head-is, WordIs, word-head}
+use Rattle.term.proofs.Words.{head-word, WordIs, word-head}
 
 -- ---- two rows side by side
 pub join-nothing : (f : Row) → f ⧺ nothing ≡ f

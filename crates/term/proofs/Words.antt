@@ -1,11 +1,11 @@
 -- Heads and their words: a head in the table is read back from its word, and a word that is read gives itself back.
-use mathlib.Core.Path.{_≡_, refl, sym, ap, _∙_}
+use mathlib.Core.Path.{_≡_, refl}
 use mathlib.Core.Bool.{Bool, true, false, _&&_}
 use mathlib.Core.Option.{Option, none, some}
-use Prim.Native.Nat.{ℕ, zero, suc, _+_, _*_, _/_, _%_, _≤_, _<_}
+use Prim.Native.Nat.{ℕ}
 use native.Mathlib.Omega.{arith}
 use lib.Dec.{leb, eqb}
-use borrow.Author.Tests.{eqb-true, eqb-false, leb-true, leb-false, eq-eqb, ne-eqb, le-leb, lt-leb}
+use borrow.Author.Tests.{eqb-true, leb-true, le-leb}
 use Rattle.term.specs.Check.{rankOr}
 use Rattle.term.specs.Word.{Head, symbol, abstraction, variable, pattern, pick, kind, count, ident, word, InTable, kindOf, countOf, identOf, headWith, headOf}
 

@@ -1,7 +1,7 @@
--- Document 01, "Numbers it answers with": the number and the place of each answer. Document 02 adds 18, "result can't take the arguments (if any), at = their number".
+-- Document 01, "Numbers it answers with": the number and the place of each answer. Document 02 adds 18, "result can't take the arguments (if any), at = their number", and 19, "table and term disagree, at = first wrong, missing or surplus offset".
 use Prim.Native.Nat.{ℕ}
 use Rattle.term.specs.declared.answer.Answer.{Answer}
-use Rattle.term.specs.declared.answer.Answer.the-variants.{Done, NoFit, BudgetUsed, BadText, BadTerm, BadBook, Short, Damaged, Over, NoRule, CannotTake}
+use Rattle.term.specs.declared.answer.Answer.the-variants.{Done, NoFit, BudgetUsed, BadText, BadTerm, BadBook, Short, Damaged, Over, NoRule, CannotTake, Disagree}
 
 abbrev pub numberOf : Answer → ℕ
 numberOf Done = 0
@@ -15,6 +15,7 @@ numberOf (Damaged at) = 14
 numberOf Over = 15
 numberOf (NoRule at) = 16
 numberOf (CannotTake at) = 18
+numberOf (Disagree at) = 19
 
 abbrev pub placeOf : Answer → ℕ
 placeOf Done = 0
@@ -28,6 +29,7 @@ placeOf (Damaged at) = at
 placeOf Over = 0
 placeOf (NoRule at) = at
 placeOf (CannotTake at) = at
+placeOf (Disagree at) = at
 
 -- what an answer says: document 01's number, and the place beside it
 pub record Answered : Type 0 where

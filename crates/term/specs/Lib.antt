@@ -5,4 +5,5 @@ pub mod Renumber
 pub mod Part
 pub mod Answer
 pub mod Checked
+pub mod Lengths
 pub mod told

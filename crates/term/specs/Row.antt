@@ -1,9 +1,8 @@
 -- Document 01, "Words": terms as trees, and their words, each node before its children.
-use Prim.Native.Nat.{ℕ, zero, suc, _+_, _≤_, max}
+use Prim.Native.Nat.{ℕ, zero, suc, _+_, max}
 use mathlib.Core.Path.{_≡_}
 use mathlib.Core.List.{List, [], _∷_, _++_}
 use mathlib.Core.Option.{Option, none, some}
-use lib.ListN.{length}
 use Rattle.term.specs.Word.{Head, rank, count, word, InTable, headOf}
 
 -- trees that stand side by side: nothing, or a node with its children, and the trees to its right. One tree is a row of width 1.

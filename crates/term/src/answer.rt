@@ -1,4 +1,5 @@
-// Document 01's "Numbers it answers with", and document 02's 18: what is written cannot take the arguments set aside.
+// Document 01's "Numbers it answers with", and document 02's 18 and 19: what is written cannot take the arguments set aside; a term and its
+// table of lengths disagree.
 ghost use mathlib.Core.Path.{_≡_};
 ghost use Rattle.term.specs.Answer.{numberOf, placeOf};
 
@@ -14,6 +15,7 @@ pub enum Answer {
     Over,
     NoRule(u32),
     CannotTake(u32),
+    Disagree(usize),
 }
 
 // The number of the table.
@@ -32,6 +34,7 @@ pub fn number(answer: Answer) -> u32
         Answer::Over => 15,
         Answer::NoRule(_) => 16,
         Answer::CannotTake(_) => 18,
+        Answer::Disagree(_) => 19,
     }
 }
 
@@ -46,6 +49,7 @@ pub fn place(answer: Answer) -> usize
         Answer::Damaged(at) => at,
         Answer::NoRule(at) => at as usize,
         Answer::CannotTake(at) => at as usize,
+        Answer::Disagree(at) => at,
         Answer::Done => 0,
         Answer::NoFit => 0,
         Answer::BudgetUsed => 0,

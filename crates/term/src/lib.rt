@@ -2,6 +2,7 @@
 pub mod answer;
 pub mod check;
 mod image;
+pub mod lengths;
 pub mod lent;
 pub mod list;
 pub mod part;

@@ -13,7 +13,7 @@ use Rattle.text.specs.Refusal.{answerKey, atKey, refusalBlock}
 use Rattle.text.proofs.Above.{number-text-before, number-text-short}
 use Rattle.text.proofs.Wrote.{Wrote, wrote-then}
 
-pub number-small : (a : Answer) → numberOf a ≤ 18
+pub number-small : (a : Answer) → numberOf a ≤ 19
 number-small answers.Done = omega arith
 number-small answers.NoFit = omega arith
 number-small answers.BudgetUsed = omega arith
@@ -25,6 +25,7 @@ number-small (answers.Damaged at) = omega arith
 number-small answers.Over = omega arith
 number-small (answers.NoRule at) = omega arith
 number-small (answers.CannotTake at) = omega arith
+number-small (answers.Disagree at) = omega arith
 
 -- a block of few bytes
 abbrev pub Brief : List ℕ → List ℕ → List ℕ → ℕ → Type 0
