@@ -40,3 +40,5 @@ pub use Rattle.steps.proofs.Traces.{trace-steps, trace-visits, EachFoun
 pub use Rattle.steps.proofs.Seeks.{search-few, term-few}
 -- What simplifying answers and leaves in 4,096 words or more, by how it ended.
 pub use Rattle.steps.proofs.RunWords.{RunGives, simplify-gives}
+-- The table of lengths after a part is replaced: as one equation, and entry by entry.
+pub use Rattle.steps.proofs.SplicedLengths.{spliced-lengths, entry-before, entry-ancestor, ancestor-long, ancestor-holds, entry-new, entry-tail}

@@ -18,6 +18,7 @@ mod WrittenRoots
 mod AsideWords
 mod AsideWrites
 mod Offsets
+mod SplicedLengths
 mod Limits
 mod Steps
 mod Demand
