@@ -1,7 +1,7 @@
 -- From what a walk tells of the part that the words begin with to what the operations answer and leave.
 use mathlib.Core.Path.{◌≡◌, refl, sym, ap, ◌∙◌}
 use mathlib.Core.Bool.{Bool, true, false, ◌&&◌}
-use mathlib.Core.List.{List, [], ◌∷◌, ◌++◌, append_nil}
+use mathlib.Core.List.{List, [], ◌∷◌, ◌++◌, append-nil}
 use mathlib.Core.Option.{Option, none, some}
 use Prim.Native.Nat.{ℕ, zero, suc, ◌+◌, ◌-◌, ◌≤◌, ◌<◌}
 use native.Mathlib.Omega.{arith}
@@ -70,7 +70,7 @@ part_is ws f e = rw e at (part_stood ws)
 pub term_part : (ws : List ℕ) (i : IsTerm ws) → part ws ≡ some i.tree
 term_part ws i =
     part_stands ws i.tree [] (rw i.same at i.short)
-    (record { formed = i.formed; few = i.few; low = i.low; wide = i.one; same = i.same ∙ sym (append_nil (words i.tree)) })
+    (record { formed = i.formed; few = i.few; low = i.low; wide = i.one; same = i.same ∙ sym (append-nil (words i.tree)) })
 
 -- ---- what is written into a cleared slice
 drop_zeros : (k n : ℕ) → k ≤ n → drop k (replicate n 0) ≡ replicate {A = ℕ} (n - k) 0

@@ -1,7 +1,7 @@
 -- Parts of terms: where one ends, and that each offset of a term begins one.
 use mathlib.Core.Path.{◌≡◌, refl, sym, ap, ◌∙◌}
 use mathlib.Core.Bool.{Bool, true, false}
-use mathlib.Core.List.{List, [], ◌∷◌, ◌++◌, append_assoc, append_nil}
+use mathlib.Core.List.{List, [], ◌∷◌, ◌++◌, append_assoc, append-nil}
 use Prim.Native.Nat.{ℕ, zero, suc, ◌+◌, ◌-◌, ◌≤◌, ◌<◌}
 use native.Mathlib.Omega.{arith}
 use native.Mathlib.Nat.{suc-add, zero-add}
@@ -103,7 +103,7 @@ row_part n (node x kids rest) p k l zero more h = (
     few = omega arith;
     low = omega arith;
     wide = refl;
-    same = ap (word x ∷◌) (append_assoc (words kids) (words rest) more ∙ ap (λ (l : List ℕ). l ++ (words rest ++ more)) (sym (append_nil (words kids))));
+    same = ap (word x ∷◌) (append_assoc (words kids) (words rest) more ∙ ap (λ (l : List ℕ). l ++ (words rest ++ more)) (sym (append-nil (words kids))));
   },
 )
 row_part n (node x kids rest) p k l (suc i) more h =
@@ -114,7 +114,7 @@ row_part n (node x kids rest) p k l (suc i) more h =
 -- a part of a term is a term
 pub part_begins : (ws : List ℕ) → IsTerm ws → (at : ℕ) → at < length ws → (f : Row) × (after : List ℕ) × Stands 64 1 (drop at ws) 0 f after
 part_begins ws i at h =
-    let e : words i.tree ++ [] ≡ ws = append_nil (words i.tree) ∙ sym i.same in
+    let e : words i.tree ++ [] ≡ ws = append-nil (words i.tree) ∙ sym i.same in
     moved 64 (words i.tree ++ []) (drop at ws) at 0 (ap (drop at) (sym e))
     (row_part 64 i.tree i.formed i.few i.low at [] (rw i.same at h))
 

@@ -2,7 +2,7 @@
 -- there, and where it comes to its end a row stands there.
 use mathlib.Core.Path.{◌≡◌, refl, sym, ap, ◌∙◌}
 use mathlib.Core.Bool.{Bool, true, false, ◌&&◌}
-use mathlib.Core.List.{List, [], ◌∷◌, ◌++◌, append_assoc, append_nil}
+use mathlib.Core.List.{List, [], ◌∷◌, ◌++◌, append_assoc, append-nil}
 use mathlib.Core.Option.{Option, none, some}
 use Prim.Native.Nat.{ℕ, zero, suc, ◌+◌, ◌-◌, ◌≤◌, ◌<◌, max}
 use native.Mathlib.Omega.{arith}
@@ -211,7 +211,7 @@ module _ (d : ℕ) (ys ws : List ℕ) (g : good_list d ys ≡ true) where
           rw i.stands.same
           ((rw x at (passed (id_body d ys) i.tree 0 0 0 [] i.after i.stands.formed i.stands.few (omega (arith, i.stands.low)) (omega (arith, i.short)) p.0))
           ∙ ap (before (words (renumber (id_body d ys) 0 i.tree))) (ended (0 + length (words i.tree)) i.after)
-          ∙ ap some (append_nil (words (renumber (id_body d ys) 0 i.tree)) ∙ ap words p.1))
+          ∙ ap some (append-nil (words (renumber (id_body d ys) 0 i.tree)) ∙ ap words p.1))
 
   met_body : (us : List ℕ) → images (id_body d ys) 0 (level 1 0 ∷ []) ws ≡ some us → (b : Row) × (body_of d ys ws ≡ some b)
   unfolding Parsed body_of closed

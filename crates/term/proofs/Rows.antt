@@ -151,7 +151,7 @@ read_joined (node h kids rest) p n ws =
       ← p.1,
       read_joined kids p.2 (width rest + n) (words rest ++ ws),
       read_joined rest p.3 n ws,
-      before_before,
+      before_before kids rest (read n ws),
     )
     (before_node h kids rest (read n ws) p.1)
 

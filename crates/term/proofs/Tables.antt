@@ -1,6 +1,6 @@
 -- The table of a row: to read it at an offset is to pass over the part that begins there, since a formed row's counts say where each tree ends.
 use mathlib.Core.Path.{◌≡◌, refl, ap}
-use mathlib.Core.List.{List, [], ◌∷◌, ◌++◌, append_assoc, append_nil}
+use mathlib.Core.List.{List, [], ◌∷◌, ◌++◌, append_assoc, append-nil}
 use Prim.Native.Nat.{ℕ, zero, suc, ◌<◌}
 use native.Mathlib.Omega.{arith}
 use native.Mathlib.Nat.{add-zero}
@@ -19,7 +19,7 @@ lengths_nothing = refl
 
 pub lengths_node : (h : Head) (kids rest : Row) → lengths_of (node h kids rest) ≡ suc (length (words kids)) ∷ (lengths_of kids ++ lengths_of rest)
 unfolding lengths_of words
-lengths_node h kids rest = rw (append_nil (words kids))
+lengths_node h kids rest = rw (append-nil (words kids))
 
 pub lengths_join : (f g : Row) → lengths_of (f ⧺ g) ≡ lengths_of f ++ lengths_of g
 unfolding ◌⧺◌ lengths_of
@@ -69,7 +69,7 @@ joined_lengths (node h kids rest) p ws =
 
 pub lengths_parts : (f : Row) → Formed f → part_lengths (words f) ≡ lengths_of f
 unfolding part_lengths
-lengths_parts f p = rw (append_nil (words f), append_nil (lengths_of f)) at (joined_lengths f p [])
+lengths_parts f p = rw (append-nil (words f), append-nil (lengths_of f)) at (joined_lengths f p [])
 
 -- to read the table is to pass over the part
 pub length_at : (f : Row) → Formed f → (at : ℕ) → at < length (words f) → get_or (lengths_of f) at 0 ≡ part_end (drop at (words f))

@@ -1,6 +1,6 @@
 -- `check` finds a list of words good just where they are the words of one tree within the limits.
 use mathlib.Core.Path.{◌≡◌, refl, sym, ap, ◌∙◌}
-use mathlib.Core.List.{List, [], ◌∷◌, ◌++◌, append_assoc, append_nil}
+use mathlib.Core.List.{List, [], ◌∷◌, ◌++◌, append_assoc, append-nil}
 use mathlib.Core.Bool.{Bool, true, false}
 use mathlib.Core.Option.{Option, none, some}
 use Prim.Native.Nat.{ℕ, zero, suc, ◌+◌, ◌-◌, ◌≤◌, ◌<◌, max}
@@ -45,7 +45,7 @@ module _ (limits : Limits) where
   tree_good ws i =
       let l : length (words i.tree) ≤ limits.length = rw i.same at i.short in
       let e : width i.tree + 0 ≡ 1 = omega (arith, i.one) in
-      let a : ws ≡ words i.tree ++ [] = i.same ∙ sym (append_nil _) in
+      let a : ws ≡ words i.tree ++ [] = i.same ∙ sym (append-nil _) in
       rw a (rw e at (passed i.tree 0 0 [] [] i.formed i.few (omega (arith, i.low)) (omega (arith, l))))
 
   -- the words are those of a row for each open level
@@ -159,5 +159,5 @@ module _ (limits : Limits) (few : limits.ranks ≤ 3) where
         few = p.3;
         low = omega (arith, p.5);
         short = omega (arith, few_words ws 0 (1 ∷ []) (omega arith) g);
-        same = p.6 ∙ rw (p.7, append_nil (words p.0));
+        same = p.6 ∙ rw (p.7, append-nil (words p.0));
       }

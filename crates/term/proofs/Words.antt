@@ -92,7 +92,7 @@ module _ (w : ℕ) where
       (λ t. let kz = eqb-true k 3 e in (omega arith, (leb-true c 4 (and_left (leb c 4) _ t), leb-true i 15 (and_right (leb c 4) _ t)))))
       (λ n3. tt))))
 
-pub head_is : (w : ℕ) (h : Head) → head_of w ≡ some h → (word h ≡ w) × InTable h
+pub head_is_lem : (w : ℕ) (h : Head) → head_of w ≡ some h → (word h ≡ w) × InTable h
 head_is_lem w h e = rw e at (word_head w)
 
 -- the rank of a word, by its parts

@@ -15,7 +15,7 @@ pub const MOST_LEVELS: u32 = 64;
 // One level more than may be open: the level of a word that nests too deep.
 pub const OPEN_LEVELS: usize = 65;
 
-#[derive(Drop)]
+#[derive(Clone, Copy)]
 pub enum Checked {
     Good,
     Bad(usize),

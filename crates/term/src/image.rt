@@ -13,13 +13,13 @@ use crate::word::{
 
 const MOST_ID: u64 = VARIABLE_ID as u64;
 
-#[derive(Drop)]
+#[derive(Clone, Copy)]
 pub enum Way {
     ToBody,
     ToTerm,
 }
 
-#[derive(Drop)]
+#[derive(Clone, Copy)]
 pub enum Image {
     Word(u32),
     None,

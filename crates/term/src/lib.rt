@@ -1,4 +1,6 @@
 // Terms as words in prefix order: document 01's "Words" and "Renumbering".
+#![tactic(auto)]
+
 pub mod answer;
 pub mod check;
 mod image;

@@ -11,7 +11,7 @@ use crate::same::left_open;
 use crate::word::count_of;
 
 // How writing ended: so many words were written, or why none were.
-#[derive(Drop)]
+#[derive(Clone, Copy)]
 pub enum Written {
     Words(usize),
     NoBody,

@@ -8,7 +8,7 @@ use crate::word::{ABSTRACTION, kind_of};
 pub const NO_ID: u32 = 0;
 
 // Done at the offset after a row, or Stuck.
-#[derive(Drop)]
+#[derive(Clone, Copy)]
 pub enum Passed {
     Done(usize),
     Stuck,

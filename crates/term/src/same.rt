@@ -12,7 +12,7 @@ use crate::renumber::inside_word;
 use crate::word::{VARIABLE_RANK, count_of, id_of, table_rank};
 
 // A place of two lists, in each of which an id is sought: both have it there, neither has, or they part: one has it alone, or has ended.
-#[derive(Drop)]
+#[derive(Clone, Copy)]
 pub enum Met {
     Both,
     Neither,

@@ -33,81 +33,81 @@ less_than t = and 3 kinds-of.ps (falls 3 kinds-of.ps ◌<◌ falling t) own.Pre
 abbrev calls : ℕ → lts.Claims
 calls t = (renumber-word.Asked, renumber-word.Learnt, put.Asked, put.Learnt, inside-word.Asked, inside-word.Learnt, count_of_lem.Asked, count_of_lem.Learnt, less_than t, own.Post)
 
-abbrev invariant-loop : lts.invariant-loop
-invariant-loop way d list e levels count words at out₀ a₀ left₀ out a left =
+abbrev invariant-loop-left : lts.invariant-loop-left
+invariant-loop-left way d list e levels count words at out₀ a₀ left₀ out a left =
     (length out ≡ length out₀)
     × ((last : List ℕ) (r : Passed) → RowTold (image way d list) e levels left words a out last r → RowTold (image way d list) e levels count words at out₀ last r)
 
-abbrev decreases-loop : lts.decreases-loop
-decreases-loop way d list e levels count words at out₀ a₀ left₀ out a left = left
+abbrev decreases-loop-left : lts.decreases-loop-left
+decreases-loop-left way d list e levels count words at out₀ a₀ left₀ out a left = left
 
-returns : (t : ℕ) → lts.Need-returns (calls t) (at_most t) own.Post invariant-loop decreases-loop
+returns : (t : ℕ) → lts.Need-returns-then-levels-eq0 (calls t) (at_most t) own.Post invariant-loop-left decreases-loop-left
 returns t c =
-    c.before.before.loop.invariant.1 _ _ (row_deep _ _ _ _ _ _ _ c.before.loop-test.true _ c.if1.true)
+    c.before.before.loop-left.invariant.1 _ _ (row_deep _ _ _ _ _ _ _ c.before.loop-left-test.true _ c.if-levels-eq0.true)
 
-returns_2 : (t : ℕ) → lts.Need-returns-2 (calls t) (at_most t) own.Post invariant-loop decreases-loop
+returns_2 : (t : ℕ) → lts.Need-returns-then-words-a (calls t) (at_most t) own.Post invariant-loop-left decreases-loop-left
 returns_2 t c =
-    c.before.before.before.loop.invariant.1 _ _ (row_ended _ _ _ _ _ _ _ c.before.before.loop-test.true _ c.if2.true)
+    c.before.before.before.loop-left.invariant.1 _ _ (row_ended _ _ _ _ _ _ _ c.before.before.loop-left-test.true _ c.if-words-a.true)
 
-renumber_word_requires : (t : ℕ) → lts.Need-renumber-word-requires (calls t) (at_most t) own.Post invariant-loop decreases-loop
+renumber_word_requires : (t : ℕ) → lts.Need-renumber_word-requires (calls t) (at_most t) own.Post invariant-loop-left decreases-loop-left
 renumber_word_requires t c κs =
     (c.before.before.before.before.before.before.before.before.requires.1.0, omega (arith, c.before.before.before.before.before.before.before.before.requires.1.1))
 
-same_length_3 : (t : ℕ) → lts.Need-same-length-3 (calls t) (at_most t) own.Post invariant-loop decreases-loop
-same_length_3 t c = c.before.before.before.before.before.before.before.loop.invariant.0
+same_length_3 : (t : ℕ) → lts.Need-shape_of-out-in_default (calls t) (at_most t) own.Post invariant-loop-left decreases-loop-left
+same_length_3 t c = c.before.before.before.before.before.before.loop-left.invariant.0
 
-returns_3 : (t : ℕ) → lts.Need-returns-3 (calls t) (at_most t) own.Post invariant-loop decreases-loop
+returns_3 : (t : ℕ) → lts.Need-returns-in_default (calls t) (at_most t) own.Post invariant-loop-left decreases-loop-left
 returns_3 t c =
-    let s = c.before.before.before.before.before.before.before.before.before.before.before.args in
-    let q = c.before.before.before.before.before.before.before.loop in
+    let s = c.before.before.before.before.before.before.before.before.before.before.args in
+    let q = c.before.before.before.before.before.before.loop-left in
     q.invariant.1 _ _
-    (row_no_image (image s.way s.d s.list.now) s.e s.levels q.left s.words.now q.a q.out c.before.before.before.before.before.before.loop-test.true q.out
-    (sym c.before.before.renumber-word.ensures ∙ c.enum_told.given.1))
+    (row_no_image (image s.way s.d s.list.now) s.e s.levels q.left s.words.now q.a q.out c.before.before.before.before.before.loop-left-test.true q.out
+    (sym c.before.renumber_word.ensures ∙ c.in_default.is))
 
-inside_word_requires : (t : ℕ) → lts.Need-inside-word-requires (calls t) (at_most t) own.Post invariant-loop decreases-loop
+inside_word_requires : (t : ℕ) → lts.Need-inside_word-inner-requires (calls t) (at_most t) own.Post invariant-loop-left decreases-loop-left
 inside_word_requires t c κs =
-    omega (arith, c.before.before.before.before.before.before.before.before.before.before.before.before.before.before.before.before.requires.1.1)
+    omega (arith, c.before.before.before.before.before.before.before.before.before.before.before.before.before.before.requires.1.1)
 
-renumber_row_requires : (t : ℕ) → lts.Need-renumber-row-requires (calls t) (at_most t) own.Post invariant-loop decreases-loop
+renumber_row_requires : (t : ℕ) → lts.Need-renumber_row-requires (calls t) (at_most t) own.Post invariant-loop-left decreases-loop-left
 renumber_row_requires t c κs =
-    let s = c.before.before.before.before.before.before.before.before.before.before.before.before.before.before.before.before.before.before.before in (
-      omega (arith, s.requires.0, c.before.before.before.before.before.before.before.before.before.before.before.before.before.if1.false),
-      (s.requires.1.0, omega (arith, c.before.before.inside-word.ensures, inside_small (get_or s.args.words.now c.before.before.before.before.before.before.before.before.before.before.before.before.before.before.before.loop.a 0) s.args.e, s.requires.1.1, c.before.before.before.before.before.before.before.before.before.before.before.before.before.if1.false)),
+    let s = c.before.before.before.before.before.before.before.before.before.before.before.before.before.before.before.before.before in (
+      omega (arith, s.requires.0, c.before.before.before.before.before.before.before.before.before.before.before.if-levels-eq0.false),
+      (s.requires.1.0, omega (arith, c.before.before.inside_word-inner.ensures, inside_small (get_or s.args.words.now c.before.before.before.before.before.before.before.before.before.before.before.before.before.loop-left.a 0) s.args.e, s.requires.1.1, c.before.before.before.before.before.before.before.before.before.before.before.if-levels-eq0.false)),
     )
 
-loop_again : (t : ℕ) → lts.Need-loop-preserved (calls t) (at_most t) own.Post invariant-loop decreases-loop
+loop_again : (t : ℕ) → lts.Need-loop-left-preserved (calls t) (at_most t) own.Post invariant-loop-left decreases-loop-left
 loop_again t c =
-    let s = c.before.before.before.before.before.before.before.before.before.before.before.before.before.before.before.before.before.before.before.before.before.before.before.before.before.args in
-    let q = c.before.before.before.before.before.before.before.before.before.before.before.before.before.before.before.before.before.before.before.before.before.loop in (
-      c.before.before.before.before.before.renumber-row.auto.1.1.1.1.1.1.1.1.0 ∙ c.before.before.before.before.before.before.before.before.before.before.before.put.auto.0 ∙ q.invariant.0,
+    let s = c.before.before.before.before.before.before.before.before.before.before.before.before.before.before.before.before.before.before.before.before.before.args in
+    let q = c.before.before.before.before.before.before.before.before.before.before.before.before.before.before.before.before.before.loop-left in (
+      c.before.before.before.renumber_row.auto.out ∙ c.before.before.before.before.before.before.before.before.before.put.auto.out ∙ q.invariant.0,
       λ last r told. q.invariant.1 last r
-          (row_more (image s.way s.d s.list.now) s.e s.levels q.left s.words.now q.a q.out c.before.before.before.before.before.before.before.before.before.before.before.before.before.before.before.before.before.before.before.before.loop-test.true
-          c.before.before.before.before.before.before.before.before.before.before.before.before.before.before.v.given.0.0 (sym c.before.before.before.before.before.before.before.before.before.before.before.before.before.before.before.before.renumber-word.ensures ∙ c.before.before.before.before.before.before.before.before.before.before.before.before.before.before.v.given.1) (omega (arith, c.before.before.before.before.before.before.before.before.before.before.before.before.before.before.before.before.before.before.before.if1.false)) c.before.before.before.before.before.before.before.before.before.before.before.before.before.before.before.before.before.before.if2.false _ c.before.b.given.0.0
-          (rw (c.before.before.before.before.before.before.before.count_of.ensures, c.before.before.before.before.before.before.before.before.inside-word.ensures, c.before.before.before.before.before.before.before.before.before.before.before.put.ensures, c.before.b.given.1) at c.before.before.before.before.before.renumber-row.ensures) last r told),
+          (row_more (image s.way s.d s.list.now) s.e s.levels q.left s.words.now q.a q.out c.before.before.before.before.before.before.before.before.before.before.before.before.before.before.before.before.loop-left-test.true
+          c.before.before.before.before.before.before.before.before.before.before.before.in-Word.v (sym c.before.before.before.before.before.before.before.before.before.before.before.before.renumber_word.ensures ∙ c.before.before.before.before.before.before.before.before.before.before.before.in-Word.is) (omega (arith, c.before.before.before.before.before.before.before.before.before.before.before.before.before.before.before.if-levels-eq0.false)) c.before.before.before.before.before.before.before.before.before.before.before.before.before.before.if-words-a.false _ c.in-Done.b
+          (rw (c.before.before.before.before.before.count_of-below.ensures, c.before.before.before.before.before.before.inside_word-inner.ensures, c.before.before.before.before.before.before.before.before.before.put.ensures, c.in-Done.is) at c.before.before.before.renumber_row.ensures) last r told),
     )
 
-same_length_4 : (t : ℕ) → lts.Need-same-length-4 (calls t) (at_most t) own.Post invariant-loop decreases-loop
+same_length_4 : (t : ℕ) → lts.Need-shape_of-out-in-Stuck (calls t) (at_most t) own.Post invariant-loop-left decreases-loop-left
 same_length_4 t c =
-    c.before.before.before.before.renumber-row.auto.1.1.1.1.1.1.1.1.0 ∙ c.before.before.before.before.before.before.before.before.before.before.put.auto.0 ∙ c.before.before.before.before.before.before.before.before.before.before.before.before.before.before.before.before.before.before.before.before.loop.invariant.0
+    c.before.before.before.renumber_row.auto.out ∙ c.before.before.before.before.before.before.before.before.before.put.auto.out ∙ c.before.before.before.before.before.before.before.before.before.before.before.before.before.before.before.before.before.loop-left.invariant.0
 
-returns_4 : (t : ℕ) → lts.Need-returns-4 (calls t) (at_most t) own.Post invariant-loop decreases-loop
+returns_4 : (t : ℕ) → lts.Need-returns-in-Stuck (calls t) (at_most t) own.Post invariant-loop-left decreases-loop-left
 returns_4 t c =
-    let s = c.before.before.before.before.before.before.before.before.before.before.before.before.before.before.before.before.before.before.before.before.before.before.before.before.args in
-    let q = c.before.before.before.before.before.before.before.before.before.before.before.before.before.before.before.before.before.before.before.before.loop in
+    let s = c.before.before.before.before.before.before.before.before.before.before.before.before.before.before.before.before.before.before.before.before.before.args in
+    let q = c.before.before.before.before.before.before.before.before.before.before.before.before.before.before.before.before.before.loop-left in
     q.invariant.1 _ _
-    (row_stuck (image s.way s.d s.list.now) s.e s.levels q.left s.words.now q.a q.out c.before.before.before.before.before.before.before.before.before.before.before.before.before.before.before.before.before.before.before.loop-test.true
-    c.before.before.before.before.before.before.before.before.before.before.before.before.before.v.given.0.0 (sym c.before.before.before.before.before.before.before.before.before.before.before.before.before.before.before.renumber-word.ensures ∙ c.before.before.before.before.before.before.before.before.before.before.before.before.before.v.given.1) (omega (arith, c.before.before.before.before.before.before.before.before.before.before.before.before.before.before.before.before.before.before.if1.false)) c.before.before.before.before.before.before.before.before.before.before.before.before.before.before.before.before.before.if2.false _
-    (rw (c.before.before.before.before.before.before.count_of.ensures, c.before.before.before.before.before.before.before.inside-word.ensures, c.before.before.before.before.before.before.before.before.before.before.put.ensures, c.enum-told2.given.1) at c.before.before.before.before.renumber-row.ensures))
+    (row_stuck (image s.way s.d s.list.now) s.e s.levels q.left s.words.now q.a q.out c.before.before.before.before.before.before.before.before.before.before.before.before.before.before.before.before.loop-left-test.true
+    c.before.before.before.before.before.before.before.before.before.before.before.in-Word.v (sym c.before.before.before.before.before.before.before.before.before.before.before.before.renumber_word.ensures ∙ c.before.before.before.before.before.before.before.before.before.before.before.in-Word.is) (omega (arith, c.before.before.before.before.before.before.before.before.before.before.before.before.before.before.before.if-levels-eq0.false)) c.before.before.before.before.before.before.before.before.before.before.before.before.before.before.if-words-a.false _
+    (rw (c.before.before.before.before.before.count_of-below.ensures, c.before.before.before.before.before.before.inside_word-inner.ensures, c.before.before.before.before.before.before.before.before.before.put.ensures, c.in-Stuck.is) at c.before.before.before.renumber_row.ensures))
 
-returns_5 : (t : ℕ) → lts.Need-returns-5 (calls t) (at_most t) own.Post invariant-loop decreases-loop
-returns_5 t c = c.before.loop.invariant.1 _ _ (row_done _ _ _ _ _ _ _ c.loop-test.false)
+returns_5 : (t : ℕ) → lts.Need-returns (calls t) (at_most t) own.Post invariant-loop-left decreases-loop-left
+returns_5 t c = c.before.loop-left.invariant.1 _ _ (row_done _ _ _ _ _ _ _ c.loop-left-test.false)
 
-pub +renumber-row-spec : {M : Type 1} → statement M
-+renumber-row-spec = close falling λ t. lts.spec (calls t) (at_most t) own.Post invariant-loop decreases-loop
+pub +renumber_row_spec : {M : Type 1} → statement M
++renumber_row_spec = close falling λ t. lts.spec (calls t) (at_most t) own.Post invariant-loop-left decreases-loop-left
     (λ c. (refl, λ last r told. told))
-    (λ c. c.before.before.loop.invariant.0)
+    (λ c. c.before.before.loop-left.invariant.0)
     (returns t)
-    (λ c. c.before.before.before.loop.invariant.0)
+    (λ c. c.before.before.before.loop-left.invariant.0)
     (returns_2 t)
     (λ c. omega arith)
     (λ c. omega arith)
@@ -129,5 +129,5 @@ pub +renumber-row-spec : {M : Type 1} → statement M
     (λ c. search rules)
     (same_length_4 t)
     (returns_4 t)
-    (λ c. c.before.loop.invariant.0)
+    (λ c. c.before.loop-left.invariant.0)
     (returns_5 t)

@@ -5,13 +5,13 @@ use Rattle.term.specs.Told.Walk.{image}
 use Rattle.term.proofs.image.renumber_id.Statement.{statement}
 use Rattle.term.proofs.image.renumber_id.Tie as tie
 
-returns : tie.Need-returns
+returns : tie.Need-returns-in-ToBody
 unfolding image
-returns c = c.body-id.ensures ∙ rw c.before.enum_told.given.1
+returns c = c.body_id.ensures ∙ rw c.before.in-ToBody.is
 
-returns_2 : tie.Need-returns-2
+returns_2 : tie.Need-returns-in-ToTerm
 unfolding image
-returns_2 c = c.term-id.ensures ∙ rw c.before.enum-told2.given.1
+returns_2 c = c.term_id.ensures ∙ rw c.before.in-ToTerm.is
 
 pub renumber_id_spec : {M : Type 1} → statement M
 renumber_id_spec =

@@ -9,19 +9,19 @@ use Rattle.term.proofs.TableAnswers.{good_few, check_lengths_bad, check_lengths_
 use Rattle.term.proofs.lengths.check_lengths.Statement.{statement}
 use Rattle.term.proofs.lengths.check_lengths.Tie as tie
 
-returns : tie.Need-returns
-returns c = check_lengths_bad _ _ _ (sym c.before.before.before.check_term.ensures ∙ c.before.at.given.1)
+returns : tie.Need-returns-in-Bad
+returns c = check_lengths_bad _ _ _ (sym c.before.check_term.ensures ∙ c.in-Bad.is)
 
 -- a term's words are at most as many as the array has
-few : (c : tie.After-enum-told) → length c.before.before.before.before.before.args.term.now ≤ 4096
-few c = good_few _ (sym c.before.before.check_term.ensures ∙ c.enum_told.given.1)
+few : (c : tie.In_default) → length c.before.before.before.before.args.term.now ≤ 4096
+few c = good_few _ (sym c.before.check_term.ensures ∙ c.in_default.is)
 
-slice_aggregate_agree : tie.Need-slice-aggregate-agree
+slice_aggregate_agree : tie.Need-slice_bounds-agree-end
 slice_aggregate_agree c = sym (length-take-le _ _ (omega (arith, few c.before.before.before.before)))
 
-returns_2 : tie.Need-returns-2
+returns_2 : tie.Need-returns
 returns_2 c =
-    check_lengths_good _ _ _ _ (sym c.before.before.before.before.before.before.before.check_term.ensures ∙ c.before.before.before.before.before.enum_told.given.1) c.before.before.before.measure.ensures c.agree.ensures
+    check_lengths_good _ _ _ _ (sym c.before.before.before.before.before.before.check_term.ensures ∙ c.before.before.before.before.before.in_default.is) c.before.before.before.measure.ensures c.agree.ensures
 
 pub check_lengths_spec : {M : Type 1} → statement M
 check_lengths_spec =

@@ -9,32 +9,32 @@ use Rattle.term.proofs.Answers.{no_list, told_body, told_long, told_none, is_som
 use Rattle.term.proofs.part.is_closed.Statement.{statement}
 use Rattle.term.proofs.part.is_closed.Tie as tie
 
-returns : tie.Need-returns
+returns : tie.Need-returns-then-not-good_list
 returns c =
-    is_none _ _ _ (no_list _ _ _ (sym c.before.good-list.ensures ∙ not-true _ c.if1.true))
+    is_none _ _ _ (no_list _ _ _ (sym c.before.good_list.ensures ∙ not-true _ c.if-not-good_list.true-raw))
 
-renumber_row_requires : tie.Need-renumber-row-requires
+renumber_row_requires : tie.Need-renumber_row-requires
 renumber_row_requires c κs =
-    ((good_true _ _ (sym c.before.before.good-list.ensures ∙ not-false _ c.before.if1.false)).few, omega arith)
+    ((good_true _ _ (sym c.before.before.good_list.ensures ∙ not-false _ c.before.if-not-good_list.false-raw)).few, omega arith)
 
-returns_2 : tie.Need-returns-2
+returns_2 : tie.Need-returns-then-n-gt-MOST_WORDS
 unfolding image
 returns_2 c =
-    let s = c.before.before.before.before.before.before.before.before.before.before.before.args in
-    is_none _ _ _ (told_long s.d s.list.now s.words.now (sym c.before.before.before.before.before.before.before.before.good-list.ensures ∙ not-false _ c.before.before.before.before.before.before.before.if1.false) _ _ _ (rw c.before.before.n.given.1 at c.before.before.before.before.before.renumber-row.ensures) c.if2.true)
+    let s = c.before.before.before.before.before.before.before.before.before.args in
+    is_none _ _ _ (told_long s.d s.list.now s.words.now (sym c.before.before.before.before.before.before.good_list.ensures ∙ not-false _ c.before.before.before.before.before.if-not-good_list.false-raw) _ _ _ (rw c.before.in-Done.is at c.before.before.before.renumber_row.ensures) c.if-n-gt-MOST_WORDS.true)
 
-returns_3 : tie.Need-returns-3
+returns_3 : tie.Need-returns-else-n-gt-MOST_WORDS
 unfolding image
 returns_3 c =
-    let s = c.before.before.before.before.before.before.before.before.before.before.before.args in
-    let b = told_body s.d s.list.now s.words.now (sym c.before.before.before.before.before.before.before.before.good-list.ensures ∙ not-false _ c.before.before.before.before.before.before.before.if1.false) _ _ _ (rw c.before.before.n.given.1 at c.before.before.before.before.before.renumber-row.ensures) c.if2.false in
+    let s = c.before.before.before.before.before.before.before.before.before.args in
+    let b = told_body s.d s.list.now s.words.now (sym c.before.before.before.before.before.before.good_list.ensures ∙ not-false _ c.before.before.before.before.before.if-not-good_list.false-raw) _ _ _ (rw c.before.in-Done.is at c.before.before.before.renumber_row.ensures) c.if-n-gt-MOST_WORDS.false in
     is_some_lem _ _ _ b.0 b.1
 
-returns_4 : tie.Need-returns-4
+returns_4 : tie.Need-returns-in-Stuck
 unfolding image
 returns_4 c =
-    let s = c.before.before.before.before.before.before.before.before.before.args in
-    is_none _ _ _ (told_none s.d s.list.now s.words.now (sym c.before.before.before.before.before.before.good-list.ensures ∙ not-false _ c.before.before.before.before.before.if1.false) _ _ (rw c.enum_told.given.1 at c.before.before.before.renumber-row.ensures))
+    let s = c.before.before.before.before.before.before.before.before.args in
+    is_none _ _ _ (told_none s.d s.list.now s.words.now (sym c.before.before.before.before.before.good_list.ensures ∙ not-false _ c.before.before.before.before.if-not-good_list.false-raw) _ _ (rw c.in-Stuck.is at c.before.before.renumber_row.ensures))
 
 pub is_closed_spec : {M : Type 1} → statement M
 is_closed_spec =

@@ -9,27 +9,27 @@ use Rattle.term.proofs.Parts.{passed_all, passed_none, passed_one, passed_first}
 use Rattle.term.proofs.part.part_end.Statement.{statement}
 use Rattle.term.proofs.part.part_end.Tie as tie
 
-abbrev invariant-loop : tie.invariant-loop
-invariant-loop words at₀ left₀ at left = (at ≤ length words) × (part_end words ≡ at + past left (drop at words))
+abbrev invariant-loop-left : tie.invariant-loop-left
+invariant-loop-left words at₀ left₀ at left = (at ≤ length words) × (part_end words ≡ at + past left (drop at words))
 
-abbrev decreases-loop : tie.decreases-loop
-decreases-loop words at₀ left₀ at left = length words - at
+abbrev decreases-loop-left : tie.decreases-loop-left
+decreases-loop-left words at₀ left₀ at left = length words - at
 
-returns : tie.Need-returns invariant-loop decreases-loop
-returns c = let q = c.before.before.loop in passed_all _ q.at q.left q.invariant.1 q.invariant.0 c.if1.true
+returns : tie.Need-returns-then-words-at invariant-loop-left decreases-loop-left
+returns c = let q = c.before.before.loop-left in passed_all _ q.at q.left q.invariant.1 q.invariant.0 c.if-words-at.true
 
-loop_again : tie.Need-loop-preserved invariant-loop decreases-loop
+loop_again : tie.Need-loop-left-preserved invariant-loop-left decreases-loop-left
 loop_again c =
-    let q = c.before.before.before.before.loop in
-    (omega arith, rw c.count_of.ensures (passed_one _ q.at q.left q.invariant.1 (omega arith) c.before.before.before.loop-test.true))
+    let q = c.before.before.before.before.loop-left in
+    (omega arith, rw c.count_of.ensures (passed_one _ q.at q.left q.invariant.1 (omega arith) c.before.before.before.loop-left-test.true))
 
-returns_2 : tie.Need-returns-2 invariant-loop decreases-loop
-returns_2 c = let q = c.before.loop in passed_none _ q.at q.left q.invariant.1 c.loop-test.false
+returns_2 : tie.Need-returns invariant-loop-left decreases-loop-left
+returns_2 c = let q = c.before.loop-left in passed_none _ q.at q.left q.invariant.1 c.loop-left-test.false
 
 pub part_end_spec : {M : Type 1} → statement M
 part_end_spec =
     tie.close
-    (tie.spec invariant-loop decreases-loop
+    (tie.spec invariant-loop-left decreases-loop-left
     (λ c. (omega arith, passed_first _))
     (λ c. omega arith)
     returns

@@ -10,42 +10,42 @@ use Rattle.term.proofs.Answers.{no_list, told_none, told_long, body_wrote, body_
 use Rattle.term.proofs.part.write_body.Statement.{statement}
 use Rattle.term.proofs.part.write_body.Tie as tie
 
-returns : tie.Need-returns
+returns : tie.Need-returns-then-not-good_list
 returns c =
-    body_none _ _ _ _ _ c.before.before.before.before.clear.ensures (no_list _ _ _ (sym c.before.good-list.ensures ∙ not-true _ c.if1.true))
+    body_none _ _ _ _ _ c.before.before.before.before.clear.ensures (no_list _ _ _ (sym c.before.good_list.ensures ∙ not-true _ c.if-not-good_list.true-raw))
 
-renumber_row_requires : tie.Need-renumber-row-requires
+renumber_row_requires : tie.Need-renumber_row-requires
 renumber_row_requires c κs =
-    ((good_true _ _ (sym c.before.before.good-list.ensures ∙ not-false _ c.before.if1.false)).few, omega arith)
+    ((good_true _ _ (sym c.before.before.good_list.ensures ∙ not-false _ c.before.if-not-good_list.false-raw)).few, omega arith)
 
-returns_2 : tie.Need-returns-2
+returns_2 : tie.Need-returns-then-n-gt-MOST_WORDS
 unfolding image
 returns_2 c =
-    let s = c.before.before.before.before.before.before.before.before.before.before.before.before.before.before.before.before.before.before.before.before.before.args in
-    body_none s.d s.list.now s.words.now (length s.out.now) _ (cleared _ _ _ (c.before.before.before.before.before.before.before.before.before.before.renumber-row.auto.1.1.1.1.1.1.1.1.0 ∙ c.before.before.before.before.before.before.before.before.before.before.before.before.before.before.before.before.clear.auto.0) c.before.before.clear2.ensures)
-    (told_long s.d s.list.now s.words.now (sym c.before.before.before.before.before.before.before.before.before.before.before.before.before.good-list.ensures ∙ not-false _ c.before.before.before.before.before.before.before.before.before.before.before.before.if1.false) _ _ _ (rw c.before.before.before.before.before.before.n.given.1 at c.before.before.before.before.before.before.before.before.before.before.renumber-row.ensures) c.before.before.before.before.if2.true)
+    let s = c.before.before.before.before.before.before.before.before.before.before.before.before.before.before.before.before.before.before.before.args in
+    body_none s.d s.list.now s.words.now (length s.out.now) _ (cleared _ _ _ (c.before.before.before.before.before.before.before.before.renumber_row.auto.out ∙ c.before.before.before.before.before.before.before.before.before.before.before.before.before.before.clear.auto.out) c.before.before.clear-then-n-gt-MOST_WORDS.ensures)
+    (told_long s.d s.list.now s.words.now (sym c.before.before.before.before.before.before.before.before.before.before.before.good_list.ensures ∙ not-false _ c.before.before.before.before.before.before.before.before.before.before.if-not-good_list.false-raw) _ _ _ (rw c.before.before.before.before.before.in-Done.is at c.before.before.before.before.before.before.before.before.renumber_row.ensures) c.before.before.before.before.if-n-gt-MOST_WORDS.true)
 
-returns_3 : tie.Need-returns-3
+returns_3 : tie.Need-returns-then-n-out
 unfolding image
 returns_3 c =
-    let s = c.before.before.before.before.before.before.before.before.before.before.before.before.before.before.before.before.before.before.args in
-    body_wrote s.d s.list.now s.words.now (length s.out.now) (sym c.before.before.before.before.before.before.before.before.before.before.good-list.ensures ∙ not-false _ c.before.before.before.before.before.before.before.before.before.if1.false) _ _ _ c.before.before.before.before.before.before.before.before.before.before.before.before.before.clear.ensures
-    (rw c.before.before.before.n.given.1 at c.before.before.before.before.before.before.before.renumber-row.ensures) c.before.if2.false (omega (arith, c.if3.true, (c.before.before.before.before.before.before.before.renumber-row.auto.1.1.1.1.1.1.1.1.0 ∙ c.before.before.before.before.before.before.before.before.before.before.before.before.before.clear.auto.0)))
+    let s = c.before.before.before.before.before.before.before.before.before.before.before.before.before.before.before.before.args in
+    body_wrote s.d s.list.now s.words.now (length s.out.now) (sym c.before.before.before.before.before.before.before.before.good_list.ensures ∙ not-false _ c.before.before.before.before.before.before.before.if-not-good_list.false-raw) _ _ _ c.before.before.before.before.before.before.before.before.before.before.before.clear.ensures
+    (rw c.before.before.in-Done.is at c.before.before.before.before.before.renumber_row.ensures) c.before.if-n-gt-MOST_WORDS.false (omega (arith, c.if-n-out.true, (c.before.before.before.before.before.renumber_row.auto.out ∙ c.before.before.before.before.before.before.before.before.before.before.before.clear.auto.out)))
 
-returns_4 : tie.Need-returns-4
+returns_4 : tie.Need-returns-else-n-out
 unfolding image
 returns_4 c =
-    let s = c.before.before.before.before.before.before.before.before.before.before.before.before.before.before.before.before.before.before.before.before.before.before.args in
-    body_short s.d s.list.now s.words.now (length s.out.now) (sym c.before.before.before.before.before.before.before.before.before.before.before.before.before.before.good-list.ensures ∙ not-false _ c.before.before.before.before.before.before.before.before.before.before.before.before.before.if1.false) _ _ _ c.before.before.before.before.before.before.before.before.before.before.before.before.before.before.before.before.before.clear.ensures
-    (rw c.before.before.before.before.before.before.before.n.given.1 at c.before.before.before.before.before.before.before.before.before.before.before.renumber-row.ensures) c.before.before.before.before.before.if2.false (omega (arith, c.before.before.before.before.if3.false, (c.before.before.before.before.before.before.before.before.before.before.before.renumber-row.auto.1.1.1.1.1.1.1.1.0 ∙ c.before.before.before.before.before.before.before.before.before.before.before.before.before.before.before.before.before.clear.auto.0))) _
-    (cleared _ _ _ (c.before.before.before.before.before.before.before.before.before.before.before.renumber-row.auto.1.1.1.1.1.1.1.1.0 ∙ c.before.before.before.before.before.before.before.before.before.before.before.before.before.before.before.before.before.clear.auto.0) c.before.before.clear3.ensures)
+    let s = c.before.before.before.before.before.before.before.before.before.before.before.before.before.before.before.before.before.before.before.before.args in
+    body_short s.d s.list.now s.words.now (length s.out.now) (sym c.before.before.before.before.before.before.before.before.before.before.before.before.good_list.ensures ∙ not-false _ c.before.before.before.before.before.before.before.before.before.before.before.if-not-good_list.false-raw) _ _ _ c.before.before.before.before.before.before.before.before.before.before.before.before.before.before.before.clear.ensures
+    (rw c.before.before.before.before.before.before.in-Done.is at c.before.before.before.before.before.before.before.before.before.renumber_row.ensures) c.before.before.before.before.before.if-n-gt-MOST_WORDS.false (omega (arith, c.before.before.before.before.if-n-out.false, (c.before.before.before.before.before.before.before.before.before.renumber_row.auto.out ∙ c.before.before.before.before.before.before.before.before.before.before.before.before.before.before.before.clear.auto.out))) _
+    (cleared _ _ _ (c.before.before.before.before.before.before.before.before.before.renumber_row.auto.out ∙ c.before.before.before.before.before.before.before.before.before.before.before.before.before.before.before.clear.auto.out) c.before.before.clear-in-Done.ensures)
 
-returns_5 : tie.Need-returns-5
+returns_5 : tie.Need-returns-in-Stuck
 unfolding image
 returns_5 c =
-    let s = c.before.before.before.before.before.before.before.before.before.before.before.before.before.before.before.before.before.before.before.args in
-    body_none s.d s.list.now s.words.now (length s.out.now) _ (cleared _ _ _ (c.before.before.before.before.before.before.before.before.renumber-row.auto.1.1.1.1.1.1.1.1.0 ∙ c.before.before.before.before.before.before.before.before.before.before.before.before.before.before.clear.auto.0) c.before.before.clear4.ensures)
-    (told_none s.d s.list.now s.words.now (sym c.before.before.before.before.before.before.before.before.before.before.before.good-list.ensures ∙ not-false _ c.before.before.before.before.before.before.before.before.before.before.if1.false) _ _ (rw c.before.before.before.before.enum_told.given.1 at c.before.before.before.before.before.before.before.before.renumber-row.ensures))
+    let s = c.before.before.before.before.before.before.before.before.before.before.before.before.before.before.before.before.before.before.args in
+    body_none s.d s.list.now s.words.now (length s.out.now) _ (cleared _ _ _ (c.before.before.before.before.before.before.before.renumber_row.auto.out ∙ c.before.before.before.before.before.before.before.before.before.before.before.before.before.clear.auto.out) c.before.before.clear-in-Stuck.ensures)
+    (told_none s.d s.list.now s.words.now (sym c.before.before.before.before.before.before.before.before.before.before.good_list.ensures ∙ not-false _ c.before.before.before.before.before.before.before.before.before.if-not-good_list.false-raw) _ _ (rw c.before.before.before.before.in-Stuck.is at c.before.before.before.before.before.before.before.renumber_row.ensures))
 
 pub write_body_spec : {M : Type 1} → statement M
 write_body_spec =

@@ -3,14 +3,14 @@ use borrow.Author.Tests.{lt-ltb, le-ltb}
 use Rattle.term.proofs.same.both_stand.Statement.{statement}
 use Rattle.term.proofs.same.both_stand.Tie as tie
 
-returns_2 : tie.Need-returns-2
-returns_2 c = rw (lt-ltb _ _ c.before.if1.false, le-ltb _ _ c.if2.true)
+returns_2 : tie.Need-returns-then-others-at
+returns_2 c = rw (lt-ltb _ _ c.before.if-words-at.false, le-ltb _ _ c.if-others-at.true)
 
-returns_3 : tie.Need-returns-3
-returns_3 c = rw (lt-ltb _ _ c.before.before.if1.false, lt-ltb _ _ c.before.if2.false, le-ltb _ _ c.if3.true)
+returns_3 : tie.Need-returns-then-at-ge-MOST_WORDS
+returns_3 c = rw (lt-ltb _ _ c.before.before.if-words-at.false, lt-ltb _ _ c.before.if-others-at.false, le-ltb _ _ c.if-at-ge-MOST_WORDS.true)
 
-returns_4 : tie.Need-returns-4
-returns_4 c = rw (lt-ltb _ _ c.before.before.if1.false, lt-ltb _ _ c.before.if2.false, lt-ltb _ _ c.if3.false)
+returns_4 : tie.Need-returns
+returns_4 c = rw (lt-ltb _ _ c.before.before.if-words-at.false, lt-ltb _ _ c.before.if-others-at.false, lt-ltb _ _ c.if-at-ge-MOST_WORDS.false)
 
 pub both_stand_spec : {M : Type 1} → statement M
-both_stand_spec = tie.close (tie.spec (λ c. rw (le-ltb _ _ c.if1.true)) returns_2 returns_3 returns_4)
+both_stand_spec = tie.close (tie.spec (λ c. rw (le-ltb _ _ c.if-words-at.true)) returns_2 returns_3 returns_4)

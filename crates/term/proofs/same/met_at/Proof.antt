@@ -5,33 +5,33 @@ use Rattle.term.specs.Told.Walk.{meets, meeting}
 use Rattle.term.proofs.same.met_at.Statement.{statement}
 use Rattle.term.proofs.same.met_at.Tie as tie
 
-returns : tie.Need-returns
+returns : tie.Need-returns-then-list-j
 unfolding meeting
-returns c = rw (le-ltb _ _ c.if1.true)
+returns c = rw (le-ltb _ _ c.if-list-j.true)
 
-returns_2 : tie.Need-returns-2
+returns_2 : tie.Need-returns-then-ids-j
 unfolding meeting
-returns_2 c = rw (lt-ltb _ _ c.before.if1.false, le-ltb _ _ c.if2.true)
+returns_2 c = rw (lt-ltb _ _ c.before.if-list-j.false, le-ltb _ _ c.if-ids-j.true)
 
-returns_3 : tie.Need-returns-3
+returns_3 : tie.Need-returns-then-z-ids
 unfolding meeting meets
 returns_3 c =
-    rw (lt-ltb _ _ c.before.before.before.before.before.if1.false, lt-ltb _ _ c.before.before.before.before.if2.false, eq-eqb _ _ c.before.before.if3.true, eq-eqb _ _ c.if4.true)
+    rw (lt-ltb _ _ c.before.before.before.before.before.if-list-j.false, lt-ltb _ _ c.before.before.before.before.if-ids-j.false, eq-eqb _ _ c.before.before.if-y-list.true, eq-eqb _ _ c.if-z-ids.true)
 
-returns_4 : tie.Need-returns-4
+returns_4 : tie.Need-returns-then-y-list
 unfolding meeting meets
 returns_4 c =
-    rw (lt-ltb _ _ c.before.before.before.before.before.if1.false, lt-ltb _ _ c.before.before.before.before.if2.false, eq-eqb _ _ c.before.before.if3.true, ne_eqb _ _ c.if4.false)
+    rw (lt-ltb _ _ c.before.before.before.before.before.if-list-j.false, lt-ltb _ _ c.before.before.before.before.if-ids-j.false, eq-eqb _ _ c.before.before.if-y-list.true, ne_eqb _ _ c.if-z-ids.false)
 
-returns_5 : tie.Need-returns-5
+returns_5 : tie.Need-returns-then-z-ids-2
 unfolding meeting meets
 returns_5 c =
-    rw (lt-ltb _ _ c.before.before.before.before.before.if1.false, lt-ltb _ _ c.before.before.before.before.if2.false, ne_eqb _ _ c.before.before.if3.false, eq-eqb _ _ c.if5.true)
+    rw (lt-ltb _ _ c.before.before.before.before.before.if-list-j.false, lt-ltb _ _ c.before.before.before.before.if-ids-j.false, ne_eqb _ _ c.before.before.if-y-list.false, eq-eqb _ _ c.if-z-ids-2.true)
 
-returns_6 : tie.Need-returns-6
+returns_6 : tie.Need-returns
 unfolding meeting meets
 returns_6 c =
-    rw (lt-ltb _ _ c.before.before.before.before.before.if1.false, lt-ltb _ _ c.before.before.before.before.if2.false, ne_eqb _ _ c.before.before.if3.false, ne_eqb _ _ c.if5.false)
+    rw (lt-ltb _ _ c.before.before.before.before.before.if-list-j.false, lt-ltb _ _ c.before.before.before.before.if-ids-j.false, ne_eqb _ _ c.before.before.if-y-list.false, ne_eqb _ _ c.if-z-ids-2.false)
 
 pub met_at_spec : {M : Type 1} → statement M
 met_at_spec =

@@ -5,19 +5,19 @@ use Rattle.term.specs.Told.Walk.{image, same_image}
 use Rattle.term.proofs.same.same_word.Statement.{statement}
 use Rattle.term.proofs.same.same_word.Tie as tie
 
-returns : tie.Need-returns
+returns : tie.Need-returns-in_default
 unfolding image same_image
-returns c = rw (← c.before.before.renumber-word.ensures, c.enum_told.given.1)
+returns c = rw (← c.before.renumber_word.ensures, c.in_default.is)
 
-returns_2 : tie.Need-returns-2
+returns_2 : tie.Need-returns-in_default-renumber_word
 unfolding image same_image
 returns_2 c =
-    rw (← c.before.before.before.before.before.before.renumber-word.ensures, ← c.before.before.renumber-word2.ensures, c.before.before.before.before.v.given.1, c.enum-told2.given.1)
+    rw (← c.before.before.before.renumber_word.ensures, ← c.before.renumber_word-2.ensures, c.before.before.in-Word.is, c.in_default-renumber_word.is)
 
-returns_3 : tie.Need-returns-3
+returns_3 : tie.Need-returns
 unfolding image same_image
 returns_3 c =
-    rw (← c.before.before.before.before.before.before.before.renumber-word.ensures, ← c.before.before.before.renumber-word2.ensures, c.before.before.before.before.before.v.given.1, c.before.u.given.1)
+    rw (← c.before.before.before.renumber_word.ensures, ← c.before.renumber_word-2.ensures, c.before.before.in-Word.is, c.in-Word-renumber_word.is)
 
 pub same_word_spec : {M : Type 1} → statement M
 same_word_spec =

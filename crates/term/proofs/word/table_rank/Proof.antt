@@ -6,7 +6,7 @@ use Rattle.term.proofs.word.table_rank.Tie as tie
 
 returns : tie.Need-returns
 returns c =
-    table_is _ _ _ _ _ c.before.before.before.kind-of.ensures c.before.before.count_of.ensures c.before.id-of.ensures c.rank-with.ensures
+    table_is _ _ _ _ _ c.before.before.before.kind_of.ensures c.before.before.count_of.ensures c.before.id_of.ensures c.rank_with.ensures
 
 pub table_rank_spec : {M : Type 1} → statement M
 table_rank_spec =
