@@ -1,7 +1,7 @@
 -- The loop of ids_of: what is left of the words gives the ids.
 use mathlib.Core.Path.{◌≡◌, refl, sym, ap, ◌∙◌}
 use mathlib.Core.Bool.{Bool, true, false}
-use mathlib.Core.List.{List, [], ◌∷◌, ◌++◌, append_assoc, append_nil}
+use mathlib.Core.List.{List, [], ◌∷◌, ◌++◌, append_assoc, append-nil}
 use mathlib.Core.Option.{Option, none, some}
 use Prim.Native.Nat.{ℕ, zero, suc, ◌+◌, ◌-◌, ◌≤◌, ◌<◌}
 use native.Mathlib.Omega.{arith}
@@ -84,7 +84,7 @@ module _ (k : ℕ) (ws : List ℕ) (few : k ≤ 4) where
     unfolding four_of variable_ids
     ids_ended h =
         let z : k - j ≡ 0 = omega arith in
-        let e : list_in k ws ≡ some (take j ids) = s.2 ∙ rw z (ap some (append_nil (take j ids))) in
+        let e : list_in k ws ≡ some (take j ids) = s.2 ∙ rw z (ap some (append-nil (take j ids))) in
         let l : length (take j ids) ≡ j = length-take-le j ids (omega (arith, s.0, s.1)) in
         let q : take j ids ++ replicate (4 - j) 0 ≡ ids = ap (λ (r : List ℕ). take j ids ++ r) (sym s.3) ∙ take-append-drop j ids in
         rw (e, l) (sym q, refl)

@@ -1,7 +1,7 @@
 -- A book of rules that are sound is good, and one with a rule that is not is bad: each rule is found before the words after it, and judged alone.
 use mathlib.Core.Path.{◌≡◌, refl, sym, ap, ◌∙◌}
 use mathlib.Core.Bool.{Bool, true, false}
-use mathlib.Core.List.{List, [], ◌∷◌, ◌++◌, append_nil}
+use mathlib.Core.List.{List, [], ◌∷◌, ◌++◌, append-nil}
 use mathlib.Core.Option.{some}
 use Prim.Native.Nat.{ℕ, zero, suc, ◌+◌, ◌≤◌, ◌<◌}
 use native.Mathlib.Omega.{arith}
@@ -28,7 +28,7 @@ AllSound [] = Unit {0}
 AllSound (rule ∷ rules) = Whole rule × (sound rule ≡ true) × AllSound rules
 
 pub whole_words : (v : ℕ) (left right : List ℕ) → Whole (v ∷ length left ∷ length right ∷ (left ++ right))
-whole_words v left right = (record { vars = v; left = left; right = right }, ap (λ (x : List ℕ). rule_of (v ∷ length left ∷ length right ∷ x)) (sym (append_nil (left ++ right))) ∙ words_rule v left right [])
+whole_words v left right = (record { vars = v; left = left; right = right }, ap (λ (x : List ℕ). rule_of (v ∷ length left ∷ length right ∷ x)) (sym (append-nil (left ++ right))) ∙ words_rule v left right [])
 
 -- ---- the words of rules, one after the other
 pub together_nothing : together [] ≡ []
@@ -48,7 +48,7 @@ module _ (ws : List ℕ) (w : Whole ws) (rest : List ℕ) where
   before_rest : rule_of (ws ++ rest) ≡ some (w.0, rest)
   before_rest =
       ap (λ (x : List ℕ). rule_of (x ++ rest)) (rule_words_lem ws w.0 [] w.1)
-      ∙ ap (λ (x : List ℕ). rule_of (w.0.vars ∷ length w.0.left ∷ length w.0.right ∷ (x ++ rest))) (append_nil (w.0.left ++ w.0.right))
+      ∙ ap (λ (x : List ℕ). rule_of (w.0.vars ∷ length w.0.left ∷ length w.0.right ∷ (x ++ rest))) (append-nil (w.0.left ++ w.0.right))
       ∙ words_rule w.0.vars w.0.left w.0.right rest
 
   judged_so : (number more : ℕ) → judge number (suc more) (ws ++ rest) ≡ judged (sound ws) (judge (suc number) more rest) number

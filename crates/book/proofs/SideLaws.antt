@@ -1,7 +1,7 @@
 -- Sides of rules in words: the list of a pattern variable, and what is told of a row by its first tree and the rest.
 use mathlib.Core.Path.{◌≡◌, refl, sym, ap, ap₂, ◌∙◌}
 use mathlib.Core.Bool.{Bool, true, false, ◌&&◌}
-use mathlib.Core.List.{List, [], ◌∷◌, ◌++◌, append_assoc, append_nil}
+use mathlib.Core.List.{List, [], ◌∷◌, ◌++◌, append_assoc, append-nil}
 use mathlib.Core.Option.{Option, none, some}
 use Prim.Native.Nat.{ℕ, zero, suc, ◌+◌, ◌-◌, ◌≤◌, ◌<◌, max}
 use native.Mathlib.Omega.{arith}
@@ -74,7 +74,7 @@ further : (at n : ℕ) (ws x y : List ℕ) → drop at ws ≡ x ++ y → length 
 further at n ws x y e h = sym (drop-drop n at ws) ∙ rw e (drop_at x y n h)
 
 words_tree : (h : Head) (kids : Row) → words (node h kids nothing) ≡ word h ∷ words kids
-words_tree h kids = words_node h kids nothing ∙ rw words_nothing (ap (word h ∷◌) (append_nil (words kids)))
+words_tree h kids = words_node h kids nothing ∙ rw words_nothing (ap (word h ∷◌) (append-nil (words kids)))
 
 split_words : (h : Head) (kids rest : Row) (after : List ℕ) → words (node h kids rest) ++ after ≡ words (node h kids nothing) ++ (words rest ++ after)
 split_words h kids rest after = rw (words_node h kids rest, words_tree h kids) (ap (word h ∷◌) (append_assoc (words kids) (words rest) after))

@@ -1,7 +1,7 @@
 -- The sides of a rule: from what a walk tells to what is asked of a side.
 use mathlib.Core.Path.{◌≡◌, refl, sym, ap, ◌∙◌}
 use mathlib.Core.Bool.{Bool, true, false, ◌&&◌}
-use mathlib.Core.List.{List, [], ◌∷◌, ◌++◌, append_nil}
+use mathlib.Core.List.{List, [], ◌∷◌, ◌++◌, append-nil}
 use mathlib.Core.Option.{Option, none, some}
 use Prim.Native.Nat.{ℕ, zero, suc, ◌+◌, ◌-◌, ◌≤◌, ◌<◌}
 use native.Mathlib.Omega.{arith}
@@ -36,7 +36,7 @@ side_tree ws g = good_tree side_limits (omega arith) ws g
 
 pub tree_read : (ws : List ℕ) (i : IsTree side_limits ws) → read 1 ws ≡ some (i.tree, [])
 tree_read ws i =
-    let a : ws ≡ words i.tree ++ [] = i.same ∙ sym (append_nil _) in
+    let a : ws ≡ words i.tree ++ [] = i.same ∙ sym (append-nil _) in
     rw a (rw i.one at (read_words_lem i.tree i.formed []))
 
 module _ (side : Side) (ws : List ℕ) (g : check side_limits ws ≡ Good) where
@@ -44,7 +44,7 @@ module _ (side : Side) (ws : List ℕ) (g : check side_limits ws ≡ Good) where
   unfolding SideTold
   told_shape r told =
       let i = side_tree ws g in
-      told i.tree [] (record { formed = i.formed; low = i.low; wide = i.one; same = i.same ∙ sym (append_nil _) })
+      told i.tree [] (record { formed = i.formed; low = i.low; wide = i.one; same = i.same ∙ sym (append-nil _) })
 
   pub side_good : (a : ℕ) → SideTold side 0 16 1 ws 0 (Done a) → true ≡ is_good (check side_limits ws) && shaped (shape_of side 0) (read 1 ws)
   side_good a told = sym (rw (g, tree_read ws (side_tree ws g)) (done_true _ _ a (told_shape (Done a) told)))

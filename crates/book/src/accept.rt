@@ -7,7 +7,7 @@ use term::answer::Answer;
 use term::check::Checked;
 
 // The book is sound, or the answer that refuses it.
-#[derive(Drop)]
+#[derive(Clone, Copy)]
 pub enum Accepted {
     Sound,
     Refused(Answer),

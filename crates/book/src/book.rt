@@ -11,7 +11,7 @@ use term::check::Checked;
 const HEADER: usize = 3;
 
 // A rule's variables, and where in a book its left side begins, its right side begins and it ends.
-#[derive(Drop)]
+#[derive(Clone, Copy)]
 pub struct Sides {
     pub vars: u32,
     pub left: usize,
@@ -19,7 +19,7 @@ pub struct Sides {
     pub end: usize,
 }
 
-#[derive(Drop)]
+#[derive(Clone, Copy)]
 pub enum Found {
     Rule(Sides),
     None,

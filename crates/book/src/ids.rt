@@ -8,7 +8,7 @@ use term::list::{MOST_IDS, good_list};
 use term::word::{VARIABLE_RANK, id_of, table_rank};
 
 // The ids and then zeros, and whether all that were asked for are there; zeros where they are not.
-#[derive(Drop)]
+#[derive(Clone, Copy)]
 pub struct Ids {
     pub ids: [u32; 4],
     pub all: bool,

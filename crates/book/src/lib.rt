@@ -1,4 +1,6 @@
 // Books of rules in memory: document 01's "The book".
+#![tactic(auto)]
+
 pub mod accept;
 pub mod book;
 pub mod ids;

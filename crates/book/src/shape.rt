@@ -6,14 +6,14 @@ use crate::ids::list_for;
 use term::renumber::{Passed, inside_word};
 use term::word::{PATTERN, VARIABLE, count_of, id_of, kind_of};
 
-#[derive(Drop)]
+#[derive(Clone, Copy)]
 pub enum Side {
     Left,
     Right,
 }
 
 // What a word of a side is: with its list it takes so many words, or its children are to be gone into, or it may not stand there.
-#[derive(Drop)]
+#[derive(Clone, Copy)]
 pub enum Front {
     Past(usize),
     Inside,

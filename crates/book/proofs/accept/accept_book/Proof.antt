@@ -6,11 +6,11 @@ use Rattle.book.proofs.Accepting.{good_accepted, bad_refused}
 use Rattle.book.proofs.accept.accept_book.Statement.{statement}
 use Rattle.book.proofs.accept.accept_book.Tie as tie
 
-returns : tie.Need-returns
-returns c = sym (good_accepted _ (sym c.before.before.check_book.ensures ∙ c.enum_told.given.1))
+returns : tie.Need-returns-in-Good
+returns c = sym (good_accepted _ (sym c.before.check_book.ensures ∙ c.in-Good.is))
 
-returns_2 : tie.Need-returns-2
-returns_2 c = sym (bad_refused _ _ (sym c.before.before.before.check_book.ensures ∙ c.before.at.given.1))
+returns_2 : tie.Need-returns-in-Bad
+returns_2 c = sym (bad_refused _ _ (sym c.before.check_book.ensures ∙ c.in-Bad.is))
 
 pub accept_book_spec : {M : Type 1} → statement M
 accept_book_spec = tie.close (tie.spec (λ c κs. search rules) (λ c. search rules) (λ c. search rules) returns returns_2)

@@ -12,100 +12,100 @@ use Rattle.book.proofs.Places.{rule_placed, book_empty, book_many, book_start, b
 use Rattle.book.proofs.book.check_book.Statement.{statement}
 use Rattle.book.proofs.book.check_book.Tie as tie
 
-abbrev invariant-loop : tie.invariant-loop
-invariant-loop words rules at₀ number₀ at number =
+abbrev invariant-loop-number : tie.invariant-loop-number
+invariant-loop-number words rules at₀ number₀ at number =
     check_book words ≡ judge number (rules - number) (drop at words)
 
-abbrev decreases-loop : tie.decreases-loop
-decreases-loop words rules at₀ number₀ at number = rules - number
+abbrev decreases-loop-number : tie.decreases-loop-number
+decreases-loop-number words rules at₀ number₀ at number = rules - number
 
-returns_3 : tie.Need-returns-3 invariant-loop decreases-loop
+returns_3 : tie.Need-returns-in_default invariant-loop-number decreases-loop-number
 returns_3 c =
-    let start = c.before.before.before.before.before.before.before.before.before in
-    let turn = c.before.before.before.before in
-    book_no_rule start.args.words.now (get_or start.args.words.now 0 0) turn.loop.at turn.loop.number turn.loop.invariant c.before.before.before.loop-test.true (sym c.enum_told.given.1 ∙ c.before.before.sides-from.ensures)
+    let start = c.before.before.before.before.before.before.before.before in
+    let turn = c.before.before.before in
+    book_no_rule start.args.words.now (get_or start.args.words.now 0 0) turn.loop-number.at turn.loop-number.number turn.loop-number.invariant c.before.before.loop-number-test.true (sym c.in_default.is ∙ c.before.sides_from.ensures)
 
-mul_good_rule : tie.Need-overflow-mul-good-rule invariant-loop decreases-loop
+mul_good_rule : tie.Need-offset_bounds-words-left invariant-loop-number decreases-loop-number
 mul_good_rule c =
-    let start = c.before.before.before.before.before.before.before.before.before.before in
-    let p = rule_placed start.args.words.now c.before.before.before.before.before.loop.at c.before.sides.given.0.0 (sym c.before.sides.given.1 ∙ c.before.before.before.sides-from.ensures) in
-    omega (arith, p.left_first, p.right_next, p.within, start.well-formed)
+    let start = c.before.before.before.before.before.before.before.before in
+    let p = rule_placed start.args.words.now c.before.before.before.loop-number.at c.in-Rule.sides (sym c.in-Rule.is ∙ c.before.sides_from.ensures) in
+    omega (arith, p.left_first, p.right_next, p.within, start.well_formed)
 
-sub_good_rule : tie.Need-overflow-sub-good-rule invariant-loop decreases-loop
+sub_good_rule : tie.Need-slice_bounds-good_rule-count invariant-loop-number decreases-loop-number
 sub_good_rule c =
-    let p = rule_placed c.before.before.before.before.before.before.before.before.before.before.args.words.now c.before.before.before.before.before.loop.at c.before.sides.given.0.0 (sym c.before.sides.given.1 ∙ c.before.before.before.sides-from.ensures) in
+    let p = rule_placed c.before.before.before.before.before.before.before.before.args.words.now c.before.before.before.loop-number.at c.in-Rule.sides (sym c.in-Rule.is ∙ c.before.sides_from.ensures) in
     p.left_first
 
-part_good_rule_start : tie.Need-slice-bounds-good-rule-start invariant-loop decreases-loop
+part_good_rule_start : tie.Need-slice_bounds-good_rule-start invariant-loop-number decreases-loop-number
 part_good_rule_start c =
-    let p = rule_placed c.before.before.before.before.before.before.before.before.before.before.args.words.now c.before.before.before.before.before.loop.at c.before.sides.given.0.0 (sym c.before.sides.given.1 ∙ c.before.before.before.sides-from.ensures) in
+    let p = rule_placed c.before.before.before.before.before.before.before.before.args.words.now c.before.before.before.loop-number.at c.in-Rule.sides (sym c.in-Rule.is ∙ c.before.sides_from.ensures) in
     p.left_first
 
-part_good_rule_end : tie.Need-slice-bounds-good-rule-end invariant-loop decreases-loop
+part_good_rule_end : tie.Need-slice_bounds-good_rule-end invariant-loop-number decreases-loop-number
 part_good_rule_end c =
-    let p = rule_placed c.before.before.before.before.before.before.before.before.before.before.args.words.now c.before.before.before.before.before.loop.at c.before.sides.given.0.0 (sym c.before.sides.given.1 ∙ c.before.before.before.sides-from.ensures) in
+    let p = rule_placed c.before.before.before.before.before.before.before.before.args.words.now c.before.before.before.loop-number.at c.in-Rule.sides (sym c.in-Rule.is ∙ c.before.sides_from.ensures) in
     omega (arith, p.right_next, p.within)
 
-mul_good_rule_2 : tie.Need-overflow-mul-good-rule-2 invariant-loop decreases-loop
+mul_good_rule_2 : tie.Need-offset_bounds-words-right invariant-loop-number decreases-loop-number
 mul_good_rule_2 c =
-    let start = c.before.before.before.before.before.before.before.before.before.before.before in
-    let far = c.before.before in
-    let p = rule_placed start.args.words.now c.before.before.before.before.before.before.loop.at far.sides.given.0.0 (sym far.sides.given.1 ∙ c.before.before.before.before.sides-from.ensures) in
-    omega (arith, p.left_first, p.right_next, p.within, start.well-formed)
+    let start = c.before.before.before.before.before.before.before.before.before in
+    let far = c.before in
+    let p = rule_placed start.args.words.now c.before.before.before.before.loop-number.at far.in-Rule.sides (sym far.in-Rule.is ∙ c.before.before.sides_from.ensures) in
+    omega (arith, p.left_first, p.right_next, p.within, start.well_formed)
 
-sub_good_rule_2 : tie.Need-overflow-sub-good-rule-2 invariant-loop decreases-loop
+sub_good_rule_2 : tie.Need-slice_bounds-good_rule-count-in-loop-number invariant-loop-number decreases-loop-number
 sub_good_rule_2 c =
-    let far = c.before.before in
-    let p = rule_placed c.before.before.before.before.before.before.before.before.before.before.before.args.words.now c.before.before.before.before.before.before.loop.at far.sides.given.0.0 (sym far.sides.given.1 ∙ c.before.before.before.before.sides-from.ensures) in
+    let far = c.before in
+    let p = rule_placed c.before.before.before.before.before.before.before.before.before.args.words.now c.before.before.before.before.loop-number.at far.in-Rule.sides (sym far.in-Rule.is ∙ c.before.before.sides_from.ensures) in
     p.right_next
 
-part_good_rule_start_2 : tie.Need-slice-bounds-good-rule-start-2 invariant-loop decreases-loop
+part_good_rule_start_2 : tie.Need-slice_bounds-good_rule-start-in-loop-number invariant-loop-number decreases-loop-number
 part_good_rule_start_2 c =
-    let far = c.before.before in
-    let p = rule_placed c.before.before.before.before.before.before.before.before.before.before.before.args.words.now c.before.before.before.before.before.before.loop.at far.sides.given.0.0 (sym far.sides.given.1 ∙ c.before.before.before.before.sides-from.ensures) in
+    let far = c.before in
+    let p = rule_placed c.before.before.before.before.before.before.before.before.before.args.words.now c.before.before.before.before.loop-number.at far.in-Rule.sides (sym far.in-Rule.is ∙ c.before.before.sides_from.ensures) in
     p.right_next
 
-part_good_rule_end_2 : tie.Need-slice-bounds-good-rule-end-2 invariant-loop decreases-loop
+part_good_rule_end_2 : tie.Need-slice_bounds-good_rule-end-in-loop-number invariant-loop-number decreases-loop-number
 part_good_rule_end_2 c =
-    let far = c.before.before in
-    let p = rule_placed c.before.before.before.before.before.before.before.before.before.before.before.args.words.now c.before.before.before.before.before.before.loop.at far.sides.given.0.0 (sym far.sides.given.1 ∙ c.before.before.before.before.sides-from.ensures) in
+    let far = c.before in
+    let p = rule_placed c.before.before.before.before.before.before.before.before.before.args.words.now c.before.before.before.before.loop-number.at far.in-Rule.sides (sym far.in-Rule.is ∙ c.before.before.sides_from.ensures) in
     p.within
 
-returns_4 : tie.Need-returns-4 invariant-loop decreases-loop
+returns_4 : tie.Need-returns-then-not-good_rule invariant-loop-number decreases-loop-number
 returns_4 c =
-    let start = c.before.before.before.before.before.before.before.before.before.before.before.before.before.before in
-    let turn = c.before.before.before.before.before.before.before.before.before in
-    let far = c.before.before.before.before.before in
-    book_bad_rule start.args.words.now (get_or start.args.words.now 0 0) turn.loop.at turn.loop.number turn.loop.invariant c.before.before.before.before.before.before.before.before.loop-test.true far.sides.given.0.0 (rule_placed start.args.words.now turn.loop.at far.sides.given.0.0 (sym far.sides.given.1 ∙ c.before.before.before.before.before.before.before.sides-from.ensures)) (sym c.before.good_rule.ensures ∙ not-true _ c.if3.true)
+    let start = c.before.before.before.before.before.before.before.before.before.before.before.before in
+    let turn = c.before.before.before.before.before.before.before in
+    let far = c.before.before.before.before in
+    book_bad_rule start.args.words.now (get_or start.args.words.now 0 0) turn.loop-number.at turn.loop-number.number turn.loop-number.invariant c.before.before.before.before.before.before.loop-number-test.true far.in-Rule.sides (rule_placed start.args.words.now turn.loop-number.at far.in-Rule.sides (sym far.in-Rule.is ∙ c.before.before.before.before.before.sides_from.ensures)) (sym c.before.good_rule.ensures ∙ not-true _ c.if-not-good_rule.true-raw)
 
-loop_again : tie.Need-loop-preserved invariant-loop decreases-loop
+loop_again : tie.Need-loop-number-preserved invariant-loop-number decreases-loop-number
 loop_again c =
-    let start = c.before.before.before.before.before.before.before.before.before.before.before.before.before.before in
-    let turn = c.before.before.before.before.before.before.before.before.before in
-    let far = c.before.before.before.before.before in
-    book_next start.args.words.now (get_or start.args.words.now 0 0) turn.loop.at turn.loop.number turn.loop.invariant c.before.before.before.before.before.before.before.before.loop-test.true far.sides.given.0.0 (rule_placed start.args.words.now turn.loop.at far.sides.given.0.0 (sym far.sides.given.1 ∙ c.before.before.before.before.before.before.before.sides-from.ensures)) (sym c.before.good_rule.ensures ∙ not-false _ c.if3.false)
+    let start = c.before.before.before.before.before.before.before.before.before.before.before.before in
+    let turn = c.before.before.before.before.before.before.before in
+    let far = c.before.before.before.before in
+    book_next start.args.words.now (get_or start.args.words.now 0 0) turn.loop-number.at turn.loop-number.number turn.loop-number.invariant c.before.before.before.before.before.before.loop-number-test.true far.in-Rule.sides (rule_placed start.args.words.now turn.loop-number.at far.in-Rule.sides (sym far.in-Rule.is ∙ c.before.before.before.before.before.sides_from.ensures)) (sym c.before.good_rule.ensures ∙ not-false _ c.if-not-good_rule.false-raw)
 
-returns_5 : tie.Need-returns-5 invariant-loop decreases-loop
+returns_5 : tie.Need-returns-then-at-words invariant-loop-number decreases-loop-number
 returns_5 c =
     let start = c.before.before.before.before.before.before.before in
     let turn = c.before.before in
-    book_left_over start.args.words.now (get_or start.args.words.now 0 0) turn.loop.at turn.loop.number turn.loop.invariant c.before.loop-test.false c.if4.true
+    book_left_over start.args.words.now (get_or start.args.words.now 0 0) turn.loop-number.at turn.loop-number.number turn.loop-number.invariant c.before.loop-number-test.false c.if-at-words.true
 
-returns_6 : tie.Need-returns-6 invariant-loop decreases-loop
+returns_6 : tie.Need-returns invariant-loop-number decreases-loop-number
 returns_6 c =
     let start = c.before.before.before.before.before.before.before in
     let turn = c.before.before in
-    book_good start.args.words.now (get_or start.args.words.now 0 0) turn.loop.at turn.loop.number turn.loop.invariant c.before.loop-test.false c.if4.false
+    book_good start.args.words.now (get_or start.args.words.now 0 0) turn.loop-number.at turn.loop-number.number turn.loop-number.invariant c.before.loop-number-test.false c.if-at-words.false
 
 pub check_book_spec : {M : Type 1} → statement M
 check_book_spec =
     tie.close
-    (tie.spec invariant-loop decreases-loop
-    (λ c. book_empty _ c.if1.true)
+    (tie.spec invariant-loop-number decreases-loop-number
+    (λ c. book_empty _ c.if-words-eq0.true)
     (λ c. omega arith)
-    (λ c. omega (arith, c.shared-slice-known2.given 0))
-    (λ c. book_many _ c.before.before.if1.false c.if2.true)
-    (λ c. book_start _ c.before.before.if1.false c.if2.false)
+    (λ c. omega (arith, c.shared_slice_known-2-1.given 0))
+    (λ c. book_many _ c.before.before.if-words-eq0.false c.if-rules-gt-MOST_RULES_LONG.true)
+    (λ c. book_start _ c.before.before.if-words-eq0.false c.if-rules-gt-MOST_RULES_LONG.false)
     (λ c κs. search rules)
     (λ c. search rules)
     (λ c. search rules)

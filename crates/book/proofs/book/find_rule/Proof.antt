@@ -12,42 +12,42 @@ use Rattle.book.proofs.Places.{rule_placed, find_empty, find_beyond, find_start,
 use Rattle.book.proofs.book.find_rule.Statement.{statement}
 use Rattle.book.proofs.book.find_rule.Tie as tie
 
-abbrev invariant-loop : tie.invariant-loop
-invariant-loop words number at₀ before₀ at before =
+abbrev invariant-loop-before : tie.invariant-loop-before
+invariant-loop-before words number at₀ before₀ at before =
     sides_at words number ≡ seek at before (drop at words)
 
-abbrev decreases-loop : tie.decreases-loop
-decreases-loop words number at₀ before₀ at before = before
+abbrev decreases-loop-before : tie.decreases-loop-before
+decreases-loop-before words number at₀ before₀ at before = before
 
-returns_2 : tie.Need-returns-2 invariant-loop decreases-loop
-returns_2 c = find_beyond _ _ c.before.before.if1.false c.if2.true
+returns_2 : tie.Need-returns-then-words-number invariant-loop-before decreases-loop-before
+returns_2 c = find_beyond _ _ c.before.before.if-words-eq0.false c.if-words-number.true
 
-loop_holds : tie.Need-loop-init invariant-loop decreases-loop
-loop_holds c = find_start _ _ c.before.before.if1.false c.if2.false
+loop_holds : tie.Need-loop-before-init invariant-loop-before decreases-loop-before
+loop_holds c = find_start _ _ c.before.before.if-words-eq0.false c.if-words-number.false
 
-returns_3 : tie.Need-returns-3 invariant-loop decreases-loop
+returns_3 : tie.Need-returns-in_default invariant-loop-before decreases-loop-before
 returns_3 c =
-    let start = c.before.before.before.before.before.before.before.before.before in
-    let turn = c.before.before.before.before in
-    find_none start.args.words.now start.args.number turn.loop.at turn.loop.before turn.loop.invariant (sym c.enum_told.given.1 ∙ c.before.before.sides-from.ensures)
+    let start = c.before.before.before.before.before.before.before.before in
+    let turn = c.before.before.before in
+    find_none start.args.words.now start.args.number turn.loop-before.at turn.loop-before.before turn.loop-before.invariant (sym c.in_default.is ∙ c.before.sides_from.ensures)
 
-loop_again : tie.Need-loop-preserved invariant-loop decreases-loop
+loop_again : tie.Need-loop-before-preserved invariant-loop-before decreases-loop-before
 loop_again c =
-    let start = c.before.before.before.before.before.before.before.before.before.before in
-    let turn = c.before.before.before.before.before in
-    find_next start.args.words.now start.args.number turn.loop.at turn.loop.before c.before.before.before.before.loop-test.true turn.loop.invariant c.before.sides.given.0.0 (rule_placed start.args.words.now turn.loop.at c.before.sides.given.0.0 (sym c.before.sides.given.1 ∙ c.before.before.before.sides-from.ensures))
+    let start = c.before.before.before.before.before.before.before.before in
+    let turn = c.before.before.before in
+    find_next start.args.words.now start.args.number turn.loop-before.at turn.loop-before.before c.before.before.loop-before-test.true turn.loop-before.invariant c.in-Rule.sides (rule_placed start.args.words.now turn.loop-before.at c.in-Rule.sides (sym c.in-Rule.is ∙ c.before.sides_from.ensures))
 
-returns_4 : tie.Need-returns-4 invariant-loop decreases-loop
+returns_4 : tie.Need-returns invariant-loop-before decreases-loop-before
 returns_4 c =
     let start = c.before.before.before.before.before.before.before in
     let turn = c.before.before in
-    find_done start.args.words.now start.args.number turn.loop.at turn.loop.before c.before.loop-test.false turn.loop.invariant _ c.sides-from2.ensures
+    find_done start.args.words.now start.args.number turn.loop-before.at turn.loop-before.before c.before.loop-before-test.false turn.loop-before.invariant _ c.sides_from-2.ensures
 
 pub find_rule_spec : {M : Type 1} → statement M
 find_rule_spec =
     tie.close
-    (tie.spec invariant-loop decreases-loop
-    (λ c. find_empty _ _ c.if1.true)
+    (tie.spec invariant-loop-before decreases-loop-before
+    (λ c. find_empty _ _ c.if-words-eq0.true)
     (λ c. omega arith)
     returns_2
     loop_holds

@@ -9,51 +9,51 @@ use Rattle.book.proofs.IdLoop.{Sofar, no_list, ids_start, ids_ended, ids_short, 
 use Rattle.book.proofs.ids.ids_of.Statement.{statement}
 use Rattle.book.proofs.ids.ids_of.Tie as tie
 
-abbrev invariant-loop : tie.invariant-loop
-invariant-loop words k ids₀ j₀ ids j =
+abbrev invariant-loop-j : tie.invariant-loop-j
+invariant-loop-j words k ids₀ j₀ ids j =
     (few : k ≤ 4) × Sofar k words few j ids
 
-abbrev decreases-loop : tie.decreases-loop
-decreases-loop words k ids₀ j₀ ids j = k - j
+abbrev decreases-loop-j : tie.decreases-loop-j
+decreases-loop-j words k ids₀ j₀ ids j = k - j
 
-returns : tie.Need-returns invariant-loop decreases-loop
-returns c = no_list _ _ _ _ c.no-ids.ensures (ids_many _ _ c.before.if1.true)
+returns : tie.Need-returns-then-k-gt-MOST_IDS invariant-loop-j decreases-loop-j
+returns c = no_list _ _ _ _ c.no_ids.ensures (ids_many _ _ c.before.if-k-gt-MOST_IDS.true)
 
-returns_2 : tie.Need-returns-2 invariant-loop decreases-loop
+returns_2 : tie.Need-returns-then-words-j invariant-loop-j decreases-loop-j
 returns_2 c =
     let turn = c.before.before.before in
-    no_list _ _ _ _ c.no-ids2.ensures (ids_short _ _ turn.loop.invariant.0 _ _ turn.loop.invariant.1 c.before.before.loop-test.true c.before.if2.true)
+    no_list _ _ _ _ c.no_ids-then-words-j.ensures (ids_short _ _ turn.loop-j.invariant.0 _ _ turn.loop-j.invariant.1 c.before.before.loop-j-test.true c.before.if-words-j.true)
 
-returns_3 : tie.Need-returns-3 invariant-loop decreases-loop
+returns_3 : tie.Need-returns-then-table_rank-ne-VARIABLE_RANK invariant-loop-j decreases-loop-j
 returns_3 c =
     let turn = c.before.before.before.before.before.before in
-    no_list _ _ _ _ c.no-ids3.ensures (ids_other _ _ turn.loop.invariant.0 _ _ turn.loop.invariant.1 c.before.before.before.before.before.loop-test.true c.before.before.before.before.if2.false
-    (λ e. c.before.if3.true (c.before.before.table-rank.ensures ∙ e)))
+    no_list _ _ _ _ c.no_ids-then-table_rank-ne-VARIABLE_RANK.ensures (ids_other _ _ turn.loop-j.invariant.0 _ _ turn.loop-j.invariant.1 c.before.before.before.before.before.loop-j-test.true c.before.before.before.before.if-words-j.false
+    (λ e. c.before.if-table_rank-ne-VARIABLE_RANK.true (c.before.before.table_rank.ensures ∙ e)))
 
-array_write_ids : tie.Need-array-write-ids invariant-loop decreases-loop
+array_write_ids : tie.Need-bounds-ids-j invariant-loop-j decreases-loop-j
 array_write_ids c =
     let turn = c.before.before.before.before.before.before in
-    omega (arith, turn.loop.invariant.0, turn.loop.invariant.1.0, c.before.before.before.before.before.loop-test.true)
+    omega (arith, turn.loop-j.invariant.0, turn.loop-j.invariant.1.0, c.before.before.before.before.before.loop-j-test.true)
 
-loop_again : tie.Need-loop-preserved invariant-loop decreases-loop
+loop_again : tie.Need-loop-j-preserved invariant-loop-j decreases-loop-j
 loop_again c =
     let turn = c.before.before.before.before.before.before in (
-      turn.loop.invariant.0,
-      rw c.id-of.ensures
-          (ids_more _ _ turn.loop.invariant.0 _ _ turn.loop.invariant.1 c.before.before.before.before.before.loop-test.true c.before.before.before.before.if2.false
-          (sym c.before.before.table-rank.ensures ∙ c.before.if3.false)),
+      turn.loop-j.invariant.0,
+      rw c.id_of.ensures
+          (ids_more _ _ turn.loop-j.invariant.0 _ _ turn.loop-j.invariant.1 c.before.before.before.before.before.loop-j-test.true c.before.before.before.before.if-words-j.false
+          (sym c.before.before.table_rank.ensures ∙ c.before.if-table_rank-ne-VARIABLE_RANK.false)),
     )
 
-returns_4 : tie.Need-returns-4 invariant-loop decreases-loop
-returns_4 c = ids_ended _ _ c.before.loop.invariant.0 _ _ c.before.loop.invariant.1 c.loop-test.false
+returns_4 : tie.Need-returns invariant-loop-j decreases-loop-j
+returns_4 c = ids_ended _ _ c.before.loop-j.invariant.0 _ _ c.before.loop-j.invariant.1 c.loop-j-test.false
 
 pub ids_of_spec : {M : Type 1} → statement M
 ids_of_spec =
     tie.close
-    (tie.spec invariant-loop decreases-loop
+    (tie.spec invariant-loop-j decreases-loop-j
     (λ c κs. search rules)
     returns
-    (λ c. (c.if1.false, ids_start _ _ c.if1.false))
+    (λ c. (c.if-k-gt-MOST_IDS.false, ids_start _ _ c.if-k-gt-MOST_IDS.false))
     (λ c κs. search rules)
     returns_2
     (λ c. search rules)

@@ -11,16 +11,16 @@ use Rattle.book.proofs.Sides.{side_no_tree, side_good, side_unshaped}
 use Rattle.book.proofs.rule.good_side.Statement.{statement}
 use Rattle.book.proofs.rule.good_side.Tie as tie
 
-returns : tie.Need-returns
-returns c = side_no_tree _ _ _ (sym c.before.before.check-tree.ensures ∙ c.enum-told2.given.1)
+returns : tie.Need-returns-in_default
+returns c = side_no_tree _ _ _ (sym c.before.check_tree.ensures ∙ c.in_default.is)
 
-returns_2 : tie.Need-returns-2
+returns_2 : tie.Need-returns-in-Done
 returns_2 c =
-    side_good _ _ (sym c.before.before.before.before.before.check-tree.ensures ∙ c.before.before.before.enum_told.given.1) _ (rw c.enum-told3.given.1 at c.before.before.side-row.ensures)
+    side_good _ _ (sym c.before.before.before.check_tree.ensures ∙ c.before.before.in-Good.is) _ (rw c.in-Done.is at c.before.side_row.ensures)
 
-returns_3 : tie.Need-returns-3
+returns_3 : tie.Need-returns-in-Stuck
 returns_3 c =
-    side_unshaped _ _ (sym c.before.before.before.before.before.check-tree.ensures ∙ c.before.before.before.enum_told.given.1) (rw c.enum-told4.given.1 at c.before.before.side-row.ensures)
+    side_unshaped _ _ (sym c.before.before.before.check_tree.ensures ∙ c.before.before.in-Good.is) (rw c.in-Stuck.is at c.before.side_row.ensures)
 
 pub good_side_spec : {M : Type 1} → statement M
 good_side_spec =

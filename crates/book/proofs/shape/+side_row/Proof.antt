@@ -31,71 +31,71 @@ less_than t = and 1 kinds-of.ps (falls 1 kinds-of.ps ◌<◌ falling t) own.Pre
 abbrev calls : ℕ → lts.Claims
 calls t = (front_of.Asked, front_of.Learnt, inside-word.Asked, inside-word.Learnt, count_of_lem.Asked, count_of_lem.Learnt, less_than t, own.Post)
 
-abbrev invariant-loop : lts.invariant-loop
-invariant-loop side d levels count words at a₀ left₀ a left =
+abbrev invariant-loop-left : lts.invariant-loop-left
+invariant-loop-left side d levels count words at a₀ left₀ a left =
     (r : Passed) → SideTold side d levels left words a r → SideTold side d levels count words at r
 
-abbrev decreases-loop : lts.decreases-loop
-decreases-loop side d levels count words at a₀ left₀ a left = left
+abbrev decreases-loop-left : lts.decreases-loop-left
+decreases-loop-left side d levels count words at a₀ left₀ a left = left
 
-returns : (t : ℕ) → lts.Need-returns (calls t) (at_most t) own.Post invariant-loop decreases-loop
-returns t c = c.before.before.loop.invariant _ (side_deep _ _ _ _ _ _ c.before.loop-test.true c.if1.true)
+returns : (t : ℕ) → lts.Need-returns-then-levels-eq0 (calls t) (at_most t) own.Post invariant-loop-left decreases-loop-left
+returns t c = c.before.before.loop-left.invariant _ (side_deep _ _ _ _ _ _ c.before.loop-left-test.true c.if-levels-eq0.true)
 
-returns_2 : (t : ℕ) → lts.Need-returns-2 (calls t) (at_most t) own.Post invariant-loop decreases-loop
+returns_2 : (t : ℕ) → lts.Need-returns-then-words-a (calls t) (at_most t) own.Post invariant-loop-left decreases-loop-left
 returns_2 t c =
-    c.before.before.before.loop.invariant _ (side_ended _ _ _ _ _ _ c.before.before.loop-test.true c.if2.true)
+    c.before.before.before.loop-left.invariant _ (side_ended _ _ _ _ _ _ c.before.before.loop-left-test.true c.if-words-a.true)
 
-add_a : (t : ℕ) → lts.Need-overflow-add-a (calls t) (at_most t) own.Post invariant-loop decreases-loop
+add_a : (t : ℕ) → lts.Need-overflow_add-a (calls t) (at_most t) own.Post invariant-loop-left decreases-loop-left
 add_a t c =
-    let s = c.before.before.before.before.before.before.before.before.before.before.before.args in
-    omega (arith, past_small s.side s.d (get_or s.words.now c.before.before.before.before.before.before.before.before.before.loop.a 0) (drop (c.before.before.before.before.before.before.before.before.before.loop.a + 1) s.words.now) c.before.n.given.0.0 (sym (rw (suffix (c.before.before.before.before.before.before.before.before.before.loop.a + 1) c.before.before.before.before.before.before.before.before.before.before.before.args.words.now) at c.before.before.before.front_of.ensures) ∙ c.before.n.given.1), c.before.before.before.before.before.before.if2.false)
+    let s = c.before.before.before.before.before.before.before.before.before.args in
+    omega (arith, past_small s.side s.d (get_or s.words.now c.before.before.before.before.before.before.before.loop-left.a 0) (drop (c.before.before.before.before.before.before.before.loop-left.a + 1) s.words.now) c.in-Past.n (sym (rw (suffix (c.before.before.before.before.before.before.before.loop-left.a + 1) c.before.before.before.before.before.before.before.before.before.args.words.now) at c.before.front_of.ensures) ∙ c.in-Past.is), c.before.before.before.before.if-words-a.false)
 
-loop_again : (t : ℕ) → lts.Need-loop-preserved (calls t) (at_most t) own.Post invariant-loop decreases-loop
+loop_again : (t : ℕ) → lts.Need-loop-left-preserved-in-Past (calls t) (at_most t) own.Post invariant-loop-left decreases-loop-left
 loop_again t c =
-    let s = c.before.before.before.before.before.before.before.before.before.before.before.args in
-    let q = c.before.before.before.before.before.before.before.before.before.loop in
+    let s = c.before.before.before.before.before.before.before.before.before.args in
+    let q = c.before.before.before.before.before.before.before.loop-left in
     λ r told.
-    q.invariant r (side_more s.side s.d s.levels q.left s.words.now q.a c.before.before.before.before.before.before.before.before.loop-test.true _ (tree_past s.side s.d s.levels s.words.now q.a c.before.before.before.before.before.before.if2.false c.before.n.given.0.0 (sym (rw (suffix (c.before.before.before.before.before.before.before.before.before.loop.a + 1) c.before.before.before.before.before.before.before.before.before.before.before.args.words.now) at c.before.before.before.front_of.ensures) ∙ c.before.n.given.1)) r told)
+    q.invariant r (side_more s.side s.d s.levels q.left s.words.now q.a c.before.before.before.before.before.before.loop-left-test.true _ (tree_past s.side s.d s.levels s.words.now q.a c.before.before.before.before.if-words-a.false c.in-Past.n (sym (rw (suffix (c.before.before.before.before.before.before.before.loop-left.a + 1) c.before.before.before.before.before.before.before.before.before.args.words.now) at c.before.front_of.ensures) ∙ c.in-Past.is)) r told)
 
-inside_word_requires : (t : ℕ) → lts.Need-inside-word-requires (calls t) (at_most t) own.Post invariant-loop decreases-loop
+inside_word_requires : (t : ℕ) → lts.Need-inside_word-inner-requires (calls t) (at_most t) own.Post invariant-loop-left decreases-loop-left
 inside_word_requires t c κs =
-    omega (arith, c.before.before.before.before.before.before.before.before.before.before.requires.1)
+    omega (arith, c.before.before.before.before.before.before.before.before.before.requires.1)
 
-side_row_requires : (t : ℕ) → lts.Need-side-row-requires (calls t) (at_most t) own.Post invariant-loop decreases-loop
+side_row_requires : (t : ℕ) → lts.Need-side_row-requires (calls t) (at_most t) own.Post invariant-loop-left decreases-loop-left
 side_row_requires t c κs =
-    let s = c.before.before.before.before.before.before.before.before.before.before.before.before in (
-      omega (arith, s.requires.0, c.before.before.before.before.before.before.before.before.if1.false),
-      omega (arith, c.before.inside-word.ensures, inside_small (get_or s.args.words.now c.before.before.before.before.before.before.before.before.before.before.loop.a 0) s.args.d, s.requires.1, c.before.before.before.before.before.before.before.before.if1.false),
+    let s = c.before.before.before.before.before.before.before.before.before.before.before in (
+      omega (arith, s.requires.0, c.before.before.before.before.before.before.before.if-levels-eq0.false),
+      omega (arith, c.before.inside_word-inner.ensures, inside_small (get_or s.args.words.now c.before.before.before.before.before.before.before.before.before.loop-left.a 0) s.args.d, s.requires.1, c.before.before.before.before.before.before.before.if-levels-eq0.false),
     )
 
-loop_again_2 : (t : ℕ) → lts.Need-loop-preserved-2 (calls t) (at_most t) own.Post invariant-loop decreases-loop
+loop_again_2 : (t : ℕ) → lts.Need-loop-left-preserved (calls t) (at_most t) own.Post invariant-loop-left decreases-loop-left
 loop_again_2 t c =
-    let s = c.before.before.before.before.before.before.before.before.before.before.before.before.before.before.before.before.args in
-    let q = c.before.before.before.before.before.before.before.before.before.before.before.before.before.before.loop in
+    let s = c.before.before.before.before.before.before.before.before.before.before.before.before.before.args in
+    let q = c.before.before.before.before.before.before.before.before.before.before.before.loop-left in
     λ r told.
     q.invariant r
-    (side_more s.side s.d s.levels q.left s.words.now q.a c.before.before.before.before.before.before.before.before.before.before.before.before.before.loop-test.true _
-    (tree_inside s.side s.d s.levels s.words.now q.a c.before.before.before.before.before.before.before.before.before.before.before.if2.false (sym (rw (suffix (c.before.before.before.before.before.before.before.before.before.before.before.before.before.before.loop.a + 1) c.before.before.before.before.before.before.before.before.before.before.before.before.before.before.before.before.args.words.now) at c.before.before.before.before.before.before.before.before.front_of.ensures) ∙ c.before.before.before.before.before.before.enum_told.given.1) _ (rw (c.before.before.before.before.count_of.ensures, c.before.before.before.before.before.inside-word.ensures, c.before.b.given.1) at c.before.before.before.side-row.ensures)) r told)
+    (side_more s.side s.d s.levels q.left s.words.now q.a c.before.before.before.before.before.before.before.before.before.before.loop-left-test.true _
+    (tree_inside s.side s.d s.levels s.words.now q.a c.before.before.before.before.before.before.before.before.if-words-a.false (sym (rw (suffix (c.before.before.before.before.before.before.before.before.before.before.before.loop-left.a + 1) c.before.before.before.before.before.before.before.before.before.before.before.before.before.args.words.now) at c.before.before.before.before.before.front_of.ensures) ∙ c.before.before.before.before.in-Inside.is) _ (rw (c.before.before.count_of.ensures, c.before.before.before.inside_word-inner.ensures, c.in-Done.is) at c.before.side_row.ensures)) r told)
 
-returns_3 : (t : ℕ) → lts.Need-returns-3 (calls t) (at_most t) own.Post invariant-loop decreases-loop
+returns_3 : (t : ℕ) → lts.Need-returns-in-Stuck (calls t) (at_most t) own.Post invariant-loop-left decreases-loop-left
 returns_3 t c =
-    let s = c.before.before.before.before.before.before.before.before.before.before.before.before.before.before.before.args in
-    let q = c.before.before.before.before.before.before.before.before.before.before.before.before.before.loop in
+    let s = c.before.before.before.before.before.before.before.before.before.before.before.before.before.args in
+    let q = c.before.before.before.before.before.before.before.before.before.before.before.loop-left in
     q.invariant _
-    (side_stuck s.side s.d s.levels q.left s.words.now q.a c.before.before.before.before.before.before.before.before.before.before.before.before.loop-test.true
-    (tree_inside s.side s.d s.levels s.words.now q.a c.before.before.before.before.before.before.before.before.before.before.if2.false (sym (rw (suffix (c.before.before.before.before.before.before.before.before.before.before.before.before.before.loop.a + 1) c.before.before.before.before.before.before.before.before.before.before.before.before.before.before.before.args.words.now) at c.before.before.before.before.before.before.before.front_of.ensures) ∙ c.before.before.before.before.before.enum_told.given.1) _ (rw (c.before.before.before.count_of.ensures, c.before.before.before.before.inside-word.ensures, c.enum-told2.given.1) at c.before.before.side-row.ensures)))
+    (side_stuck s.side s.d s.levels q.left s.words.now q.a c.before.before.before.before.before.before.before.before.before.before.loop-left-test.true
+    (tree_inside s.side s.d s.levels s.words.now q.a c.before.before.before.before.before.before.before.before.if-words-a.false (sym (rw (suffix (c.before.before.before.before.before.before.before.before.before.before.before.loop-left.a + 1) c.before.before.before.before.before.before.before.before.before.before.before.before.before.args.words.now) at c.before.before.before.before.before.front_of.ensures) ∙ c.before.before.before.before.in-Inside.is) _ (rw (c.before.before.count_of.ensures, c.before.before.before.inside_word-inner.ensures, c.in-Stuck.is) at c.before.side_row.ensures)))
 
-returns_4 : (t : ℕ) → lts.Need-returns-4 (calls t) (at_most t) own.Post invariant-loop decreases-loop
+returns_4 : (t : ℕ) → lts.Need-returns-in-Bad (calls t) (at_most t) own.Post invariant-loop-left decreases-loop-left
 returns_4 t c =
-    let s = c.before.before.before.before.before.before.before.before.before.before.args in
-    let q = c.before.before.before.before.before.before.before.before.loop in
-    q.invariant _ (side_stuck s.side s.d s.levels q.left s.words.now q.a c.before.before.before.before.before.before.before.loop-test.true (tree_bad s.side s.d s.levels s.words.now q.a c.before.before.before.before.before.if2.false (sym (rw (suffix (c.before.before.before.before.before.before.before.before.loop.a + 1) c.before.before.before.before.before.before.before.before.before.before.args.words.now) at c.before.before.front_of.ensures) ∙ c.enum-told3.given.1)))
+    let s = c.before.before.before.before.before.before.before.before.before.args in
+    let q = c.before.before.before.before.before.before.before.loop-left in
+    q.invariant _ (side_stuck s.side s.d s.levels q.left s.words.now q.a c.before.before.before.before.before.before.loop-left-test.true (tree_bad s.side s.d s.levels s.words.now q.a c.before.before.before.before.if-words-a.false (sym (rw (suffix (c.before.before.before.before.before.before.before.loop-left.a + 1) c.before.before.before.before.before.before.before.before.before.args.words.now) at c.before.front_of.ensures) ∙ c.in-Bad.is)))
 
-returns_5 : (t : ℕ) → lts.Need-returns-5 (calls t) (at_most t) own.Post invariant-loop decreases-loop
-returns_5 t c = c.before.loop.invariant _ (side_none _ _ _ _ _ _ c.loop-test.false)
+returns_5 : (t : ℕ) → lts.Need-returns (calls t) (at_most t) own.Post invariant-loop-left decreases-loop-left
+returns_5 t c = c.before.loop-left.invariant _ (side_none _ _ _ _ _ _ c.loop-left-test.false)
 
-pub +side-row-spec : {M : Type 1} → statement M
-+side-row-spec = close falling λ t. lts.spec (calls t) (at_most t) own.Post invariant-loop decreases-loop
+pub +side_row_spec : {M : Type 1} → statement M
++side_row_spec = close falling λ t. lts.spec (calls t) (at_most t) own.Post invariant-loop-left decreases-loop-left
     (λ c. λ r told. told)
     (returns t)
     (returns_2 t)

@@ -5,11 +5,11 @@ use Rattle.book.specs.Told.Shape.{front_of}
 use Rattle.book.proofs.shape.front_of.Statement.{statement}
 use Rattle.book.proofs.shape.front_of.Tie as tie
 
-returns : tie.Need-returns
-returns c = c.left-front.ensures ∙ rw c.before.enum_told.given.1
+returns : tie.Need-returns-in-Left
+returns c = c.left_front.ensures ∙ rw c.before.in-Left.is
 
-returns_2 : tie.Need-returns-2
-returns_2 c = c.right-front.ensures ∙ rw c.before.enum-told2.given.1
+returns_2 : tie.Need-returns-in-Right
+returns_2 c = c.right_front.ensures ∙ rw c.before.in-Right.is
 
 pub front_of_spec : {M : Type 1} → statement M
 front_of_spec =

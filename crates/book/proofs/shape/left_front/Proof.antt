@@ -8,25 +8,25 @@ use Rattle.book.specs.Told.Shape.{front_of}
 use Rattle.book.proofs.shape.left_front.Statement.{statement}
 use Rattle.book.proofs.shape.left_front.Tie as tie
 
-returns : tie.Need-returns
+returns : tie.Need-returns-then-kind-eq-VARIABLE
 unfolding front_of
 returns c =
-    rw (eq-eqb _ _ (sym c.before.kind-of.ensures ∙ c.if1.true))
+    rw (eq-eqb _ _ (sym c.before.kind_of-kind.ensures ∙ c.if-kind-eq-VARIABLE.true))
 
-returns_2 : tie.Need-returns-2
+returns_2 : tie.Need-returns-then-list_for
 unfolding front_of
 returns_2 c =
-    rw (ne_eqb (kind_of c.before.before.before.before.before.before.before.args.w) 2 (λ e. c.before.before.before.before.if1.false (c.before.before.before.before.before.kind-of.ensures ∙ e)), eq-eqb _ _ (sym c.before.before.before.before.before.kind-of.ensures ∙ c.before.before.before.if2.true), ← c.before.before.count_of.ensures, ← c.before.list-for.ensures, c.if3.true)
+    rw (ne_eqb (kind_of c.before.before.before.before.before.before.before.args.w) 2 (λ e. c.before.before.before.before.if-kind-eq-VARIABLE.false (c.before.before.before.before.before.kind_of-kind.ensures ∙ e)), eq-eqb _ _ (sym c.before.before.before.before.before.kind_of-kind.ensures ∙ c.before.before.before.if-kind-eq-PATTERN.true), ← c.before.before.count_of-k.ensures, ← c.before.list_for.ensures, c.if-list_for.true)
 
-returns_3 : tie.Need-returns-3
+returns_3 : tie.Need-returns-then-kind-eq-PATTERN
 unfolding front_of
 returns_3 c =
-    rw (ne_eqb (kind_of c.before.before.before.before.before.before.before.args.w) 2 (λ e. c.before.before.before.before.if1.false (c.before.before.before.before.before.kind-of.ensures ∙ e)), eq-eqb _ _ (sym c.before.before.before.before.before.kind-of.ensures ∙ c.before.before.before.if2.true), ← c.before.before.count_of.ensures, ← c.before.list-for.ensures, c.if3.false)
+    rw (ne_eqb (kind_of c.before.before.before.before.before.before.before.args.w) 2 (λ e. c.before.before.before.before.if-kind-eq-VARIABLE.false (c.before.before.before.before.before.kind_of-kind.ensures ∙ e)), eq-eqb _ _ (sym c.before.before.before.before.before.kind_of-kind.ensures ∙ c.before.before.before.if-kind-eq-PATTERN.true), ← c.before.before.count_of-k.ensures, ← c.before.list_for.ensures, c.if-list_for.false)
 
-returns_4 : tie.Need-returns-4
+returns_4 : tie.Need-returns
 unfolding front_of
 returns_4 c =
-    rw (ne_eqb (kind_of c.before.before.before.before.args.w) 2 (λ e. c.before.if1.false (c.before.before.kind-of.ensures ∙ e)), ne_eqb (kind_of c.before.before.before.before.args.w) 3 (λ e. c.if2.false (c.before.before.kind-of.ensures ∙ e)))
+    rw (ne_eqb (kind_of c.before.before.before.before.args.w) 2 (λ e. c.before.if-kind-eq-VARIABLE.false (c.before.before.kind_of-kind.ensures ∙ e)), ne_eqb (kind_of c.before.before.before.before.args.w) 3 (λ e. c.if-kind-eq-PATTERN.false (c.before.before.kind_of-kind.ensures ∙ e)))
 
 pub left_front_spec : {M : Type 1} → statement M
 left_front_spec =

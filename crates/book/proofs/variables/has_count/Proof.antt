@@ -8,17 +8,17 @@ use Rattle.term.specs.Word.{kind_of}
 use Rattle.book.proofs.variables.has_count.Statement.{statement}
 use Rattle.book.proofs.variables.has_count.Tie as tie
 
-returns : tie.Need-returns
+returns : tie.Need-returns-then-kind_of-ne-PATTERN
 returns c =
-    rw (ne_eqb (kind_of c.before.before.before.args.w) 3 (λ e. c.if1.true (c.before.kind-of.ensures ∙ e)))
+    rw (ne_eqb (kind_of c.before.before.before.args.w) 3 (λ e. c.if-kind_of-ne-PATTERN.true (c.before.kind_of.ensures ∙ e)))
 
-add_result : tie.Need-overflow-add-result
+add_result : tie.Need-overflow_add-result
 add_result c =
     omega (arith, c.count_of.ensures)
 
-returns_2 : tie.Need-returns-2
+returns_2 : tie.Need-returns
 returns_2 c =
-    rw (eq-eqb _ _ (sym c.before.before.before.before.kind-of.ensures ∙ c.before.before.before.if1.false), c.before.counted-in.ensures, c.before.before.id-of.ensures, c.count_of.ensures, add-one)
+    rw (eq-eqb _ _ (sym c.before.before.before.before.kind_of.ensures ∙ c.before.before.before.if-kind_of-ne-PATTERN.false), c.before.counted_in.ensures, c.before.before.id_of.ensures, c.count_of.ensures, add-one)
 
 pub has_count_spec : {M : Type 1} → statement M
 has_count_spec =
