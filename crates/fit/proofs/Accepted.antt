@@ -1,7 +1,7 @@
 -- The left side of a rule of an accepted book is as fit needs it: the book asks for its shape, its counts and its variables.
 use mathlib.Core.Path.{◌≡◌, refl, sym, ap, ◌∙◌}
 use mathlib.Core.Bool.{Bool, true, false, ◌&&◌, ◌||◌}
-use mathlib.Core.List.{List, [], ◌++◌, append_nil}
+use mathlib.Core.List.{List, [], ◌++◌, append-nil}
 use mathlib.Core.Option.{Option, none, some}
 use Prim.Native.Nat.{ℕ, suc, ◌+◌, ◌≤◌}
 use native.Mathlib.Omega.{arith}
@@ -140,7 +140,7 @@ good_left_lem vars d (node (pattern i c) kids rest) p s b =
 pub tree_of_lem : (limits : Limits) (ws : List ℕ) (i : IsTree limits ws) → tree_of ws ≡ i.tree
 unfolding tree_of
 tree_of_lem limits ws i =
-    let e : words i.tree ++ [] ≡ ws = append_nil (words i.tree) ∙ sym i.same in
+    let e : words i.tree ++ [] ≡ ws = append-nil (words i.tree) ∙ sym i.same in
     let r : read 1 ws ≡ some (i.tree, []) = rw (e, i.one) at (read_words_lem i.tree i.formed []) in
     rw r
 

@@ -1,7 +1,7 @@
 -- Bodies as one list with their lengths beside it, taken apart and put together again.
 use mathlib.Core.Path.{◌≡◌, refl, sym, ap, ap₂, ◌∙◌}
 use mathlib.Core.Bool.{true}
-use mathlib.Core.List.{List, [], ◌∷◌, ◌++◌, append_assoc, append_nil}
+use mathlib.Core.List.{List, [], ◌∷◌, ◌++◌, append_assoc, append-nil}
 use Prim.Native.Nat.{ℕ, zero, suc, ◌+◌, ◌-◌, ◌≤◌, ◌<◌}
 use native.Mathlib.Omega.{arith}
 use native.Mathlib.Nat.{zero-add, add-zero, suc-add, add-suc}
@@ -128,7 +128,7 @@ module _ (vars : ℕ) (b : ℕ → Row) (few : vars ≤ 16) where
   starts zero h = refl
   starts (suc k) h =
       let e : body_list b 0 (suc k) ≡ body_list b 0 k ++ (words (b k) ++ []) = ap (body_list b 0) (sym (add-one k)) ∙ body_split b k 0 1 ∙ ap (λ (j : ℕ). body_list b 0 k ++ (words (b j) ++ [])) (zero-add k) in
-      let n : length (body_list b 0 (suc k)) ≡ length (body_list b 0 k) + length (words (b k)) = ap length e ∙ length-append (body_list b 0 k) (words (b k) ++ []) ∙ ap (λ (l : List ℕ). length (body_list b 0 k) + length l) (append_nil (words (b k))) in
+      let n : length (body_list b 0 (suc k)) ≡ length (body_list b 0 k) + length (words (b k)) = ap length e ∙ length-append (body_list b 0 k) (words (b k) ++ []) ∙ ap (λ (l : List ℕ). length (body_list b 0 k) + length l) (append-nil (words (b k))) in
       omega (arith, n, starts k (omega (arith, h)), at_variable k h)
 
   unused : all_zero (drop vars lengths) ≡ true

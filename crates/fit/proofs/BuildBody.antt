@@ -1,7 +1,7 @@
 -- A body written in its place: it is over the limits just where it nests too deep there, an id passes 65,535 or the words run over.
 use mathlib.Core.Path.{◌≡◌, refl, sym, ap, ◌∙◌}
 use mathlib.Core.Bool.{Bool, true, false}
-use mathlib.Core.List.{List, [], ◌∷◌, ◌++◌, append_nil}
+use mathlib.Core.List.{List, [], ◌∷◌, ◌++◌, append-nil}
 use mathlib.Core.Option.{none, some}
 use Prim.Native.Nat.{ℕ, zero, suc, ◌+◌, ◌-◌, ◌≤◌, ◌<◌}
 use native.Mathlib.Omega.{arith}
@@ -57,13 +57,13 @@ spliced out ws to from e = go (leb to (length out)) refl
     go false q =
         let h : length out < to = leb-false to (length out) q in
         let f : from ≡ length out = omega (arith, e, h) in
-        rw (f, take-length out, drop-length out, sets_nil 0 ws, append_nil out) (sym (sets_out out to ws (omega arith)))
+        rw (f, take-length out, drop-length out, sets_nil 0 ws, append-nil out) (sym (sets_out out to ws (omega arith)))
 
 -- the part from an offset on goes to the end
 pub put_back : (out last : List ℕ) (from : ℕ) → take from out ++ (last ++ drop (length out - from) (drop from out)) ≡ take from out ++ last
 put_back out last from =
     let e : drop (length out - from) (drop from out) ≡ [] = ap (λ (k : ℕ). drop k (drop from out)) (sym (length-drop from out)) ∙ drop-length (drop from out) in
-    rw (e, append_nil last)
+    rw (e, append-nil last)
 
 -- ---- a body that was written
 module _ (d : ℕ) (ys : List ℕ) (levels : ℕ) (body out : List ℕ) (to : ℕ) where

@@ -1,7 +1,7 @@
 -- Rows of a left side and of a term that stand side by side: their first trees, and what is told of a row by its first tree and the rest.
 use mathlib.Core.Path.{◌≡◌, refl, sym, ap, ◌∙◌}
 use mathlib.Core.Bool.{Bool, true, false}
-use mathlib.Core.List.{List, [], ◌∷◌, ◌++◌, append_assoc, append_nil}
+use mathlib.Core.List.{List, [], ◌∷◌, ◌++◌, append_assoc, append-nil}
 use mathlib.Core.Option.{Option, none, some}
 use Prim.Native.Nat.{ℕ, suc, ◌+◌, ◌-◌, ◌≤◌, ◌<◌}
 use native.Mathlib.Omega.{arith}
@@ -24,7 +24,7 @@ pub further : (at n : ℕ) (ws x y : List ℕ) → drop at ws ≡ x ++ y → len
 further at n ws x y e h = sym (drop-drop n at ws) ∙ rw e (drop_at x y n h)
 
 pub words_tree : (h : Head) (kids : Row) → words (node h kids nothing) ≡ word h ∷ words kids
-words_tree h kids = words_node h kids nothing ∙ rw words_nothing (ap (word h ∷◌) (append_nil (words kids)))
+words_tree h kids = words_node h kids nothing ∙ rw words_nothing (ap (word h ∷◌) (append-nil (words kids)))
 
 split_words : (h : Head) (kids rest : Row) (after : List ℕ) → words (node h kids rest) ++ after ≡ words (node h kids nothing) ++ (words rest ++ after)
 split_words h kids rest after = rw (words_node h kids rest, words_tree h kids) (ap (word h ∷◌) (append_assoc (words kids) (words rest) after))
@@ -32,7 +32,7 @@ split_words h kids rest after = rw (words_node h kids rest, words_tree h kids) (
 -- ---- found, tree by tree
 pub both_end : (o : Option Found) → both_found o (some []) ≡ o
 both_end none = refl
-both_end (some l) = ap some (append_nil l)
+both_end (some l) = ap some (append-nil l)
 
 then_split : (x : ℕ) (b : Option Row) (o : Option Found) → body_then x b o ≡ both_found (body_then x b (some [])) o
 then_split x none o = refl
@@ -143,7 +143,7 @@ module _ (vars d levels count : ℕ) (left : List ℕ) (at : ℕ) (term : List �
       shown : (p t : Row) → width p ≡ 0 → width t ≡ 0 → (m : Found) × (agreed_from l (found d (left_of p) t) ≡ some m) × Knows left term table (l ++ m) × (at ≡ at + length (words p)) × (to ≡ to + length (words t))
       shown nothing nothing a b =
           let n : length (words nothing) ≡ 0 = ap length words_nothing in
-          ([], refl, rw append_nil k, omega (arith, n), omega (arith, n))
+          ([], refl, rw append-nil k, omega (arith, n), omega (arith, n))
       shown nothing (node h ks rs) a b = absurd (omega (arith, b, width_node h ks rs))
       shown (node h ks rs) t a b = absurd (omega (arith, a, width_node h ks rs))
 

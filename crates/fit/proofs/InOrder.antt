@@ -1,7 +1,7 @@
 -- Bodies of any kind one after the other: what was written are the bodies so far, and zeros after them.
 use mathlib.Core.Path.{◌≡◌, refl, sym, ap, ap₂, ◌∙◌}
 use mathlib.Core.Bool.{true, false}
-use mathlib.Core.List.{List, [], ◌∷◌, ◌++◌, append_assoc, append_nil}
+use mathlib.Core.List.{List, [], ◌∷◌, ◌++◌, append_assoc, append-nil}
 use Prim.Native.Nat.{ℕ, zero, suc, ◌+◌, ◌-◌, ◌≤◌, ◌<◌}
 use native.Mathlib.Omega.{arith}
 use native.Mathlib.Numerals.{add-one}
@@ -19,7 +19,7 @@ use Rattle.fit.specs.Match.{body_list, length_list, Matched, refused, fitted, ma
 -- ---- one body more
 pub body_more : (b : ℕ → Row) (x n : ℕ) → body_list b x (suc n) ≡ body_list b x n ++ words (b (x + n))
 unfolding body_list
-body_more b x zero = let z : x + 0 ≡ x = omega arith in rw (z, append_nil (words (b x)))
+body_more b x zero = let z : x + 0 ≡ x = omega arith in rw (z, append-nil (words (b x)))
 body_more b x (suc n) =
     let z : x + suc n ≡ suc x + n = omega arith in
     rw z (ap (λ (r : List ℕ). words (b x) ++ r) (body_more b (suc x) n) ∙ sym (append_assoc (words (b x)) (body_list b (suc x) n) (words (b (suc x + n)))))
@@ -52,7 +52,7 @@ pub joined_long : (room at : ℕ) (bodies out part post : List ℕ) → length b
     → length (take at bodies ++ (part ++ post)) ≡ room
 joined_long room at bodies out part post n h o long e =
     length-append (take at bodies) (part ++ post)
-    ∙ rw (e, append_nil part, length-take-le at bodies (omega (arith, n, h))) (omega (arith, long, o, h))
+    ∙ rw (e, append-nil part, length-take-le at bodies (omega (arith, n, h))) (omega (arith, long, o, h))
 
 -- what is answered and left
 abbrev pub Leaves : ℕ → Matched → Answer → List ℕ → List ℕ → Type 0
@@ -133,7 +133,7 @@ module _ (vars : ℕ) (b : ℕ → Row) (room : ℕ) (few : vars ≤ 16) where
       words_next =
           let t : take at bodies ≡ body_list b 0 x = ap (take at) s.written ∙ take_at (body_list b 0 x) (replicate (room - at) 0) at (sym s.there) in
           let z : length out - n ≡ room - (at + n) = omega (arith, o) in
-          let e : part ++ post ≡ words (b x) ++ replicate (room - (at + n)) 0 = ap (λ (r : List ℕ). part ++ r) nothing-after ∙ append_nil part ∙ w ∙ ap (λ (m : ℕ). words (b x) ++ replicate m 0) z in
+          let e : part ++ post ≡ words (b x) ++ replicate (room - (at + n)) 0 = ap (λ (r : List ℕ). part ++ r) nothing-after ∙ append-nil part ∙ w ∙ ap (λ (m : ℕ). words (b x) ++ replicate m 0) z in
           ap₂ (λ (c d : List ℕ). c ++ d) t e
           ∙ sym (append_assoc (body_list b 0 x) (words (b x)) (replicate (room - (at + n)) 0))
           ∙ ap (λ (r : List ℕ). r ++ replicate (room - (at + n)) 0) (sym bodies_next)

@@ -1,7 +1,7 @@
 -- A rule's left side stands in its words from their first on, and a term in its own: the book's check asks for what a walk needs.
 use mathlib.Core.Path.{◌≡◌, sym, ◌∙◌}
 use mathlib.Core.Bool.{true, ◌&&◌}
-use mathlib.Core.List.{List, [], ◌++◌, append_nil}
+use mathlib.Core.List.{List, [], ◌++◌, append-nil}
 use mathlib.Core.Option.{some}
 use Prim.Native.Nat.{ℕ, suc, ◌+◌}
 use native.Mathlib.Omega.{arith}
@@ -49,7 +49,7 @@ left_row vars d (node (pattern x c) kids rest) p s b =
 
 -- the words of one tree, and nothing after them
 alone : (limits : Limits) (ws : List ℕ) (i : IsTree limits ws) → drop 0 ws ≡ words i.tree ++ []
-alone limits ws i = i.same ∙ sym (append_nil (words i.tree))
+alone limits ws i = i.same ∙ sym (append-nil (words i.tree))
 
 rule_stands : (rule : Rule) → RuleFacts rule → LeftStands rule.vars 0 16 1 rule.left 0 (tree_of rule.left) []
 rule_stands rule f =

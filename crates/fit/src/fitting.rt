@@ -23,14 +23,14 @@ const DEPTH: usize = 2;
 const NOT_MET: u32 = 0;
 
 // Done at the offsets after a row of the left side and after its row of the term, or Stuck.
-#[derive(Drop)]
+#[derive(Clone, Copy)]
 pub enum Both {
     Done(usize, usize),
     Stuck,
 }
 
 // A variable's first occurrence: where its part begins, the abstractions passed, and its list of k ids.
-#[derive(Drop)]
+#[derive(Clone, Copy)]
 pub struct First {
     pub at: usize,
     pub depth: u32,

@@ -1,4 +1,6 @@
 // Fit of one rule: document 01's "Fit".
+#![tactic(auto)]
+
 mod bodies;
 pub mod build;
 mod fitting;

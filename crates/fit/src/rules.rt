@@ -15,7 +15,7 @@ use term::lent::clear;
 use term::word::{SYMBOL, count_of, id_of, kind_of};
 
 // The answer, and how many arguments are set aside; 0 where no rule fits.
-#[derive(Drop)]
+#[derive(Clone, Copy)]
 pub struct RuleMatch {
     pub answer: Answer,
     pub aside: u32,

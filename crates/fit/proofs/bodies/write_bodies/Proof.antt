@@ -9,85 +9,85 @@ use Rattle.fit.proofs.BodyLoop.{SoFar, bodies_start, bodies_short, bodies_done, 
 use Rattle.fit.proofs.bodies.write_bodies.Statement.{statement}
 use Rattle.fit.proofs.bodies.write_bodies.Tie as tie
 
-abbrev invariant-loop : tie.invariant-loop
-invariant-loop vars left term table bodies₀ lengths₀ at₀ x₀ bodies lengths at x = SoFar vars left term table (length bodies₀) bodies lengths at x
+abbrev invariant-loop-x : tie.invariant-loop-x
+invariant-loop-x vars left term table bodies₀ lengths₀ at₀ x₀ bodies lengths at x = SoFar vars left term table (length bodies₀) bodies lengths at x
 
-abbrev decreases-loop : tie.decreases-loop
-decreases-loop vars left term table bodies₀ lengths₀ at₀ x₀ bodies lengths at x = vars - x
+abbrev decreases-loop-x : tie.decreases-loop-x
+decreases-loop-x vars left term table bodies₀ lengths₀ at₀ x₀ bodies lengths at x = vars - x
 
-loop_holds : tie.Need-loop-init invariant-loop decreases-loop
+loop_holds : tie.Need-loop-x-init invariant-loop-x decreases-loop-x
 loop_holds c = let s = c.before.before.before.before.before.args in bodies_start s.vars s.left.now s.term.now s.table.now _ c.before.before.before.before.before.requires.0 _ _ refl c.before.before.before.before.before.requires.3 c.before.before.before.before.before.requires.4
 
-mul_write_first : tie.Need-overflow-mul-write-first invariant-loop decreases-loop
-mul_write_first c = omega (arith, c.before.loop.invariant.long, c.before.loop.invariant.within)
+mul_write_first : tie.Need-offset_bounds-bodies-at invariant-loop-x decreases-loop-x
+mul_write_first c = omega (arith, c.before.loop-x.invariant.long, c.before.loop-x.invariant.within)
 
-sub_write_first : tie.Need-overflow-sub-write-first invariant-loop decreases-loop
-sub_write_first c = omega (arith, c.before.loop.invariant.long, c.before.loop.invariant.within)
+sub_write_first : tie.Need-slice_bounds-write_first-count invariant-loop-x decreases-loop-x
+sub_write_first c = omega (arith, c.before.loop-x.invariant.long, c.before.loop-x.invariant.within)
 
-part_write_first_start : tie.Need-slice-bounds-write-first-start invariant-loop decreases-loop
-part_write_first_start c = omega (arith, c.before.loop.invariant.long, c.before.loop.invariant.within)
+part_write_first_start : tie.Need-slice_bounds-write_first-start invariant-loop-x decreases-loop-x
+part_write_first_start c = omega (arith, c.before.loop-x.invariant.long, c.before.loop-x.invariant.within)
 
-write_first_requires : tie.Need-write-first-requires invariant-loop decreases-loop
+write_first_requires : tie.Need-write_first-requires invariant-loop-x decreases-loop-x
 write_first_requires c κs =
     let start = c.before.before.before.before.before.before.before.before in
-    (omega (arith, c.before.loop-test.true, start.requires.0), start.requires.2)
+    (omega (arith, c.before.loop-x-test.true, start.requires.0), start.requires.2)
 
-cast_lengths : tie.Need-overflow-cast-lengths invariant-loop decreases-loop
-cast_lengths c = omega (arith, written_within _ _ _ _ _ _ _ (rw c.before.n.given.1 at c.before.before.before.before.before.write-first.ensures), c.before.before.before.before.before.before.before.before.before.before.before.before.before.before.requires.1)
+cast_lengths : tie.Need-overflow_cast-lengths invariant-loop-x decreases-loop-x
+cast_lengths c = omega (arith, written_within _ _ _ _ _ _ _ (rw c.in-Done.is at c.before.before.before.write_first.ensures), c.before.before.before.before.before.before.before.before.before.before.before.before.requires.1)
 
-mul_lengths : tie.Need-overflow-mul-lengths invariant-loop decreases-loop
-mul_lengths c = omega (arith, c.before.before.before.before.before.before.before.before.loop.invariant.sixteen, c.before.before.before.before.before.before.before.loop-test.true, c.before.before.before.before.before.before.before.before.before.before.before.before.before.before.requires.0)
+mul_lengths : tie.Need-offset_bounds-lengths-x invariant-loop-x decreases-loop-x
+mul_lengths c = omega (arith, c.before.before.before.before.before.before.loop-x.invariant.sixteen, c.before.before.before.before.before.loop-x-test.true, c.before.before.before.before.before.before.before.before.before.before.before.before.requires.0)
 
-slice_write_lengths : tie.Need-slice-write-lengths invariant-loop decreases-loop
-slice_write_lengths c = omega (arith, c.before.before.before.before.before.before.before.before.loop.invariant.sixteen, c.before.before.before.before.before.before.before.loop-test.true, c.before.before.before.before.before.before.before.before.before.before.before.before.before.before.requires.0)
+slice_write_lengths : tie.Need-bounds-lengths-x invariant-loop-x decreases-loop-x
+slice_write_lengths c = omega (arith, c.before.before.before.before.before.before.loop-x.invariant.sixteen, c.before.before.before.before.before.loop-x-test.true, c.before.before.before.before.before.before.before.before.before.before.before.before.requires.0)
 
-add_at : tie.Need-overflow-add-at invariant-loop decreases-loop
+add_at : tie.Need-overflow_add-at invariant-loop-x decreases-loop-x
 add_at c =
-    let turn = c.before.before.before.before.before.before.before.before in
-    omega (arith, written_within _ _ _ _ _ _ _ (rw c.before.n.given.1 at c.before.before.before.before.before.write-first.ensures), c.before.before.before.before.before.before.before.before.before.before.before.before.before.before.requires.1, turn.loop.invariant.long, turn.loop.invariant.within)
+    let turn = c.before.before.before.before.before.before in
+    omega (arith, written_within _ _ _ _ _ _ _ (rw c.in-Done.is at c.before.before.before.write_first.ensures), c.before.before.before.before.before.before.before.before.before.before.before.before.requires.1, turn.loop-x.invariant.long, turn.loop-x.invariant.within)
 
-loop_again : tie.Need-loop-preserved invariant-loop decreases-loop
+loop_again : tie.Need-loop-x-preserved invariant-loop-x decreases-loop-x
 loop_again c =
-    let start = c.before.before.before.before.before.before.before.before.before.before.before.before.before.before in
-    let far = c.before.before.before.before.before in
+    let start = c.before.before.before.before.before.before.before.before.before.before.before.before in
+    let far = c.before.before.before in
     let s = start.args in
-    let q = c.before.before.before.before.before.before.before.before.loop in
-    let w = rw c.before.n.given.1 at far.write-first.ensures in
-    bodies_more s.vars s.left.now s.term.now s.table.now (length s.bodies.now) start.requires.0 q.bodies q.lengths q.at q.x q.invariant c.before.before.before.before.before.before.before.loop-test.true _ _ _ _
+    let q = c.before.before.before.before.before.before.loop-x in
+    let w = rw c.in-Done.is at far.write_first.ensures in
+    bodies_more s.vars s.left.now s.term.now s.table.now (length s.bodies.now) start.requires.0 q.bodies q.lengths q.at q.x q.invariant c.before.before.before.before.before.loop-x-test.true _ _ _ _
     (ap length (suffix q.at q.bodies) ∙ length-drop q.at q.bodies ∙ omega (arith, q.invariant.long))
-    far.write-first.auto.1.1.1.1.0 (drop_of_length-le (drop q.at q.bodies) {i = length q.bodies - q.at} (omega (arith, length-drop q.at q.bodies))) w
+    far.write_first.auto.out (drop_of_length-le (drop q.at q.bodies) {i = length q.bodies - q.at} (omega (arith, length-drop q.at q.bodies))) w
 
-same_length : tie.Need-same-length invariant-loop decreases-loop
-same_length c = c.before.before.before.before.before.before.clear.auto.0 ∙ c.before.before.before.before.before.before.before.before.before.before.before.bodies.given.1 ∙ c.before.before.before.before.before.before.before.before.before.before.before.before.before.before.before.loop.invariant.long
+same_length : tie.Need-shape_of-bodies-in-Stuck invariant-loop-x decreases-loop-x
+same_length c = c.before.before.before.before.before.before.clear.auto.out ∙ c.before.before.before.before.before.before.before.before.before.before.bodies-1.given.1 ∙ c.before.before.before.before.before.before.before.before.before.before.before.before.before.before.loop-x.invariant.long
 
-same_length_2 : tie.Need-same-length-2 invariant-loop decreases-loop
-same_length_2 c = c.before.before.clear2.auto.0 ∙ c.before.before.before.before.before.before.before.before.before.before.before.before.before.before.before.loop.invariant.sixteen ∙ sym (ap length c.before.before.before.before.before.before.before.before.before.before.before.before.before.before.before.before.before.before.before.before.before.requires.4)
+same_length_2 : tie.Need-shape_of-lengths-in-Stuck invariant-loop-x decreases-loop-x
+same_length_2 c = c.before.before.clear-in-Stuck.auto.out ∙ c.before.before.before.before.before.before.before.before.before.before.before.before.before.before.loop-x.invariant.sixteen ∙ sym (ap length c.before.before.before.before.before.before.before.before.before.before.before.before.before.before.before.before.before.before.before.before.requires.4)
 
-returns : tie.Need-returns invariant-loop decreases-loop
+returns : tie.Need-returns-in-Stuck invariant-loop-x decreases-loop-x
 returns c =
-    let start = c.before.before.before.before.before.before.before.before.before.before.before.before.before.before.before.before.before.before.before.before.before in
+    let start = c.before.before.before.before.before.before.before.before.before.before.before.before.before.before.before.before.before.before.before.before in
     let s = start.args in
-    let q = c.before.before.before.before.before.before.before.before.before.before.before.before.before.before.before.loop in
-    let w = rw c.before.before.before.before.before.before.before.before.enum_told.given.1 at c.before.before.before.before.before.before.before.before.before.before.before.before.write-first.ensures in
-    bodies_short s.vars s.left.now s.term.now s.table.now (length s.bodies.now) start.requires.0 q.bodies q.lengths q.at q.x q.invariant c.before.before.before.before.before.before.before.before.before.before.before.before.before.before.loop-test.true _ _
+    let q = c.before.before.before.before.before.before.before.before.before.before.before.before.before.before.loop-x in
+    let w = rw c.before.before.before.before.before.before.before.before.in-Stuck.is at c.before.before.before.before.before.before.before.before.before.before.before.write_first.ensures in
+    bodies_short s.vars s.left.now s.term.now s.table.now (length s.bodies.now) start.requires.0 q.bodies q.lengths q.at q.x q.invariant c.before.before.before.before.before.before.before.before.before.before.before.before.before.loop-x-test.true _ _
     (ap length (suffix q.at q.bodies) ∙ length-drop q.at q.bodies ∙ omega (arith, q.invariant.long)) w _ _
-    (cleared _ _ _ (c.before.before.before.before.before.before.before.before.before.before.before.bodies.given.1 ∙ q.invariant.long) c.before.before.before.before.before.before.clear.ensures) (cleared _ _ _ q.invariant.sixteen c.before.before.clear2.ensures)
+    (cleared _ _ _ (c.before.before.before.before.before.before.before.before.before.before.bodies-1.given.1 ∙ q.invariant.long) c.before.before.before.before.before.before.clear.ensures) (cleared _ _ _ q.invariant.sixteen c.before.before.clear-in-Stuck.ensures)
 
-same_length_3 : tie.Need-same-length-3 invariant-loop decreases-loop
-same_length_3 c = c.before.loop.invariant.long
+same_length_3 : tie.Need-shape_of-bodies invariant-loop-x decreases-loop-x
+same_length_3 c = c.before.loop-x.invariant.long
 
-same_length_4 : tie.Need-same-length-4 invariant-loop decreases-loop
-same_length_4 c = c.before.loop.invariant.sixteen ∙ sym (ap length c.before.before.before.before.before.before.before.requires.4)
+same_length_4 : tie.Need-shape_of-lengths invariant-loop-x decreases-loop-x
+same_length_4 c = c.before.loop-x.invariant.sixteen ∙ sym (ap length c.before.before.before.before.before.before.before.requires.4)
 
-returns_2 : tie.Need-returns-2 invariant-loop decreases-loop
-returns_2 c = bodies_done _ _ _ _ _ c.before.before.before.before.before.before.before.requires.0 _ _ _ _ c.before.loop.invariant (omega (arith, c.loop-test.false))
+returns_2 : tie.Need-returns invariant-loop-x decreases-loop-x
+returns_2 c = bodies_done _ _ _ _ _ c.before.before.before.before.before.before.before.requires.0 _ _ _ _ c.before.loop-x.invariant (omega (arith, c.loop-x-test.false))
 
 pub write_bodies_spec : {M : Type 1} → statement M
 write_bodies_spec =
     tie.close
     (tie.spec
-    invariant-loop
-    decreases-loop
+    invariant-loop-x
+    decreases-loop-x
     loop_holds
     mul_write_first
     sub_write_first

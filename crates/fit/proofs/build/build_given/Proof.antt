@@ -9,43 +9,43 @@ use Rattle.fit.proofs.BuildAnswers.{rule_lengths, rule_body, rule_over, rule_wro
 use Rattle.fit.proofs.build.build_given.Statement.{statement}
 use Rattle.fit.proofs.build.build_given.Tie as tie
 
-returns : tie.Need-returns
+returns : tie.Need-returns-then-not-good_lengths
 returns c =
     let s = c.before.before.before.before.before.before.before.before.before.before.args in
-    rule_lengths s.vars s.left.now s.bodies.now s.lengths.now (length s.out.now) (sym c.before.good-lengths.ensures ∙ not-true _ c.if1.true) _ c.before.before.before.before.clear.ensures
+    rule_lengths s.vars s.left.now s.bodies.now s.lengths.now (length s.out.now) (sym c.before.good_lengths.ensures ∙ not-true _ c.if-not-good_lengths.true-raw) _ c.before.before.before.before.clear.ensures
 
-returns_2 : tie.Need-returns-2
+returns_2 : tie.Need-returns-in-Bad
 returns_2 c =
-    let s = c.before.before.before.before.before.before.before.before.before.before.before.before.before.before.args in
-    rule_body s.vars s.left.now s.bodies.now s.lengths.now (length s.out.now) (sym c.before.before.before.before.before.good-lengths.ensures ∙ not-false _ c.before.before.before.before.if1.false) c.before.x.given.0.0
-    (rw c.before.x.given.1 at c.before.before.before.check-bodies.ensures) _ c.before.before.before.before.before.before.before.before.clear.ensures
+    let s = c.before.before.before.before.before.before.before.before.before.before.before.before.args in
+    rule_body s.vars s.left.now s.bodies.now s.lengths.now (length s.out.now) (sym c.before.before.before.good_lengths.ensures ∙ not-false _ c.before.before.if-not-good_lengths.false-raw) c.in-Bad.x
+    (rw c.in-Bad.is at c.before.check_bodies.ensures) _ c.before.before.before.before.before.before.clear.ensures
 
-returns_3 : tie.Need-returns-3
+returns_3 : tie.Need-returns-then-n-out
 returns_3 c =
-    let far = c.before.before.before.before.before.before.before.before.before.before.before.before.before.before.before in
-    let far2 = c.before.before.before.before.before.before in
-    let s = c.before.before.before.before.before.before.before.before.before.before.before.before.before.before.before.before.before.before.before.before.before.args in
-    rule_wrote s.vars s.left.now s.bodies.now s.lengths.now (length s.out.now) (sym c.before.before.before.before.before.before.before.before.before.before.before.before.good-lengths.ensures ∙ not-false _ c.before.before.before.before.before.before.before.before.before.before.before.if1.false)
-    (rw c.before.before.before.before.before.before.before.before.enum_told.given.1 at c.before.before.before.before.before.before.before.before.before.before.check-bodies.ensures) _ _ _ _ (rw c.before.before.n.given.1 at far2.build-row.ensures) far.clear.ensures
-    (omega (arith, c.if2.true, (far2.build-row.auto.1.1.1.1.1.1.1.0 ∙ far.clear.auto.0)))
+    let far = c.before.before.before.before.before.before.before.before.before.before.before.before in
+    let far2 = c.before.before.before.before in
+    let s = c.before.before.before.before.before.before.before.before.before.before.before.before.before.before.before.before.before.before.args in
+    rule_wrote s.vars s.left.now s.bodies.now s.lengths.now (length s.out.now) (sym c.before.before.before.before.before.before.before.before.before.good_lengths.ensures ∙ not-false _ c.before.before.before.before.before.before.before.before.if-not-good_lengths.false-raw)
+    (rw c.before.before.before.before.before.before.in_default.is at c.before.before.before.before.before.before.before.check_bodies.ensures) _ _ _ _ (rw c.before.in-Done.is at far2.build_row.ensures) far.clear.ensures
+    (omega (arith, c.if-n-out.true, (far2.build_row.auto.out ∙ far.clear.auto.out)))
 
-returns_4 : tie.Need-returns-4
+returns_4 : tie.Need-returns-else-n-out
 returns_4 c =
-    let far = c.before.before.before.before.before.before.before.before.before.before.before.before.before.before.before.before.before.before.before in
-    let far2 = c.before.before.before.before.before.before.before.before.before.before in
-    let s = c.before.before.before.before.before.before.before.before.before.before.before.before.before.before.before.before.before.before.before.before.before.before.before.before.before.args in
-    rule_short s.vars s.left.now s.bodies.now s.lengths.now (length s.out.now) (sym c.before.before.before.before.before.before.before.before.before.before.before.before.before.before.before.before.good-lengths.ensures ∙ not-false _ c.before.before.before.before.before.before.before.before.before.before.before.before.before.before.before.if1.false)
-    (rw c.before.before.before.before.before.before.before.before.before.before.before.before.enum_told.given.1 at c.before.before.before.before.before.before.before.before.before.before.before.before.before.before.check-bodies.ensures) _ _ _ _ (rw c.before.before.before.before.before.before.n.given.1 at far2.build-row.ensures)
-    (omega (arith, c.before.before.before.before.if2.false, (far2.build-row.auto.1.1.1.1.1.1.1.0 ∙ far.clear.auto.0))) _
-    (cleared _ _ _ (far2.build-row.auto.1.1.1.1.1.1.1.0 ∙ far.clear.auto.0) c.before.before.clear2.ensures)
+    let far = c.before.before.before.before.before.before.before.before.before.before.before.before.before.before.before.before in
+    let far2 = c.before.before.before.before.before.before.before.before in
+    let s = c.before.before.before.before.before.before.before.before.before.before.before.before.before.before.before.before.before.before.before.before.before.before.args in
+    rule_short s.vars s.left.now s.bodies.now s.lengths.now (length s.out.now) (sym c.before.before.before.before.before.before.before.before.before.before.before.before.before.good_lengths.ensures ∙ not-false _ c.before.before.before.before.before.before.before.before.before.before.before.before.if-not-good_lengths.false-raw)
+    (rw c.before.before.before.before.before.before.before.before.before.before.in_default.is at c.before.before.before.before.before.before.before.before.before.before.before.check_bodies.ensures) _ _ _ _ (rw c.before.before.before.before.before.in-Done.is at far2.build_row.ensures)
+    (omega (arith, c.before.before.before.before.if-n-out.false, (far2.build_row.auto.out ∙ far.clear.auto.out))) _
+    (cleared _ _ _ (far2.build_row.auto.out ∙ far.clear.auto.out) c.before.before.clear-in-Done.ensures)
 
-returns_5 : tie.Need-returns-5
+returns_5 : tie.Need-returns-in-Stuck
 returns_5 c =
-    let far = c.before.before.before.before.before.before.before.before in
-    let s = c.before.before.before.before.before.before.before.before.before.before.before.before.before.before.before.before.before.before.before.before.before.before.before.args in
-    rule_over s.vars s.left.now s.bodies.now s.lengths.now (length s.out.now) (sym c.before.before.before.before.before.before.before.before.before.before.before.before.before.before.good-lengths.ensures ∙ not-false _ c.before.before.before.before.before.before.before.before.before.before.before.before.before.if1.false)
-    (rw c.before.before.before.before.before.before.before.before.before.before.enum_told.given.1 at c.before.before.before.before.before.before.before.before.before.before.before.before.check-bodies.ensures) _ _ (rw c.before.before.before.before.enum-told2.given.1 at far.build-row.ensures) _
-    (cleared _ _ _ (far.build-row.auto.1.1.1.1.1.1.1.0 ∙ c.before.before.before.before.before.before.before.before.before.before.before.before.before.before.before.before.before.clear.auto.0) c.before.before.clear3.ensures)
+    let far = c.before.before.before.before.before.before.before in
+    let s = c.before.before.before.before.before.before.before.before.before.before.before.before.before.before.before.before.before.before.before.before.before.args in
+    rule_over s.vars s.left.now s.bodies.now s.lengths.now (length s.out.now) (sym c.before.before.before.before.before.before.before.before.before.before.before.before.good_lengths.ensures ∙ not-false _ c.before.before.before.before.before.before.before.before.before.before.before.if-not-good_lengths.false-raw)
+    (rw c.before.before.before.before.before.before.before.before.before.in_default.is at c.before.before.before.before.before.before.before.before.before.before.check_bodies.ensures) _ _ (rw c.before.before.before.before.in-Stuck.is at far.build_row.ensures) _
+    (cleared _ _ _ (far.build_row.auto.out ∙ c.before.before.before.before.before.before.before.before.before.before.before.before.before.before.before.clear.auto.out) c.before.before.clear-in-Stuck.ensures)
 
 pub build_given_spec : {M : Type 1} → statement M
 build_given_spec =

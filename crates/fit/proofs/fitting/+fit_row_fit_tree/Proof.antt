@@ -51,86 +51,86 @@ row_calls t = (tree_below t, fit-tree.Post)
 abbrev tree_calls : ℕ → fit-tree-lts.Claims
 tree_calls t = (kind-of.Asked, kind-of.Learnt, fit-variable.Asked, fit-variable.Learnt, inside-word.Asked, inside-word.Learnt, count_of_lem.Asked, count_of_lem.Learnt, row_below t, Fit-row.Post)
 
-abbrev invariant-loop : fit-row-lts.invariant-loop
-invariant-loop vars d levels count left at term to table₀ a₀ b₀ more₀ table a b more =
+abbrev invariant-loop-more : fit-row-lts.invariant-loop-more
+invariant-loop-more vars d levels count left at term to table₀ a₀ b₀ more₀ table a b more =
     (length table ≡ length table₀)
     × ((last : List ℕ) (r : Both) → FitTold vars d levels more left a term b table last r → FitTold vars d levels count left at term to table₀ last r)
 
-abbrev decreases-loop : fit-row-lts.decreases-loop
-decreases-loop vars d levels count left at term to table₀ a₀ b₀ more₀ table a b more = more
+abbrev decreases-loop-more : fit-row-lts.decreases-loop-more
+decreases-loop-more vars d levels count left at term to table₀ a₀ b₀ more₀ table a b more = more
 
-row_requires : (t : ℕ) → fit-row-lts.Need-fit-tree-requires (row_calls t) (row_at t) Fit-row.Post invariant-loop decreases-loop
+row_requires : (t : ℕ) → fit-row-lts.Need-fit_tree-requires (row_calls t) (row_at t) Fit-row.Post invariant-loop-more decreases-loop-more
 row_requires t c κs =
     let p = c.before.before.before.before.before.before.requires in (
       omega (arith, p.0),
-      (p.1.0, p.1.1, p.1.2, p.1.3, c.before.before.loop.invariant.0 ∙ p.1.4),
+      (p.1.0, p.1.1, p.1.2, p.1.3, c.before.before.loop-more.invariant.0 ∙ p.1.4),
     )
 
-row_again : (t : ℕ) → fit-row-lts.Need-loop-preserved (row_calls t) (row_at t) Fit-row.Post invariant-loop decreases-loop
+row_again : (t : ℕ) → fit-row-lts.Need-loop-more-preserved (row_calls t) (row_at t) Fit-row.Post invariant-loop-more decreases-loop-more
 row_again t c =
-    let far = c.before.before.before.before.before in
-    let s = c.before.before.before.before.before.before.before.before.before.before.before.before.args in
-    let q = c.before.before.before.before.before.before.before.before.loop in (
-      far.fit-tree.auto.1.1.1.1.1.1.1.0 ∙ q.invariant.0,
-      λ last r told. q.invariant.1 last r (fit_more s.vars s.d s.levels q.more s.left.now q.a s.term.now q.b q.table c.before.before.before.before.before.before.before.loop-test.true _ _ _ (rw c.before.p.given.1 at far.fit-tree.ensures) last r told),
+    let far = c.before.before.before in
+    let s = c.before.before.before.before.before.before.before.before.before.before.args in
+    let q = c.before.before.before.before.before.before.loop-more in (
+      far.fit_tree.auto.table ∙ q.invariant.0,
+      λ last r told. q.invariant.1 last r (fit_more s.vars s.d s.levels q.more s.left.now q.a s.term.now q.b q.table c.before.before.before.before.before.loop-more-test.true _ _ _ (rw c.in-Done.is at far.fit_tree.ensures) last r told),
     )
 
-row_stuck : (t : ℕ) → fit-row-lts.Need-returns (row_calls t) (row_at t) Fit-row.Post invariant-loop decreases-loop
+row_stuck : (t : ℕ) → fit-row-lts.Need-returns-in-Stuck (row_calls t) (row_at t) Fit-row.Post invariant-loop-more decreases-loop-more
 row_stuck t c =
-    let s = c.before.before.before.before.before.before.before.before.before.before.before.args in
-    let q = c.before.before.before.before.before.before.before.loop in
-    q.invariant.1 _ _ (fit_stuck s.vars s.d s.levels q.more s.left.now q.a s.term.now q.b q.table c.before.before.before.before.before.before.loop-test.true _ (rw c.enum_told.given.1 at c.before.before.before.before.fit-tree.ensures))
+    let s = c.before.before.before.before.before.before.before.before.before.before.args in
+    let q = c.before.before.before.before.before.before.loop-more in
+    q.invariant.1 _ _ (fit_stuck s.vars s.d s.levels q.more s.left.now q.a s.term.now q.b q.table c.before.before.before.before.before.loop-more-test.true _ (rw c.in-Stuck.is at c.before.before.before.fit_tree.ensures))
 
-row_length : (t : ℕ) → fit-row-lts.Need-same-length (row_calls t) (row_at t) Fit-row.Post invariant-loop decreases-loop
-row_length t c = c.before.before.before.before.fit-tree.auto.1.1.1.1.1.1.1.0 ∙ c.before.before.before.before.before.before.before.loop.invariant.0
+row_length : (t : ℕ) → fit-row-lts.Need-shape_of-table-in-Stuck (row_calls t) (row_at t) Fit-row.Post invariant-loop-more decreases-loop-more
+row_length t c = c.before.before.before.fit_tree.auto.table ∙ c.before.before.before.before.before.before.loop-more.invariant.0
 
-row_done : (t : ℕ) → fit-row-lts.Need-returns-2 (row_calls t) (row_at t) Fit-row.Post invariant-loop decreases-loop
-row_done t c = c.before.loop.invariant.1 _ _ (fit_none _ _ _ _ _ _ _ _ _ c.loop-test.false)
+row_done : (t : ℕ) → fit-row-lts.Need-returns (row_calls t) (row_at t) Fit-row.Post invariant-loop-more decreases-loop-more
+row_done t c = c.before.loop-more.invariant.1 _ _ (fit_none _ _ _ _ _ _ _ _ _ c.loop-more-test.false)
 
-tree_deep : (t : ℕ) → fit-tree-lts.Need-returns (tree_calls t) (tree_at_lem t) fit-tree.Post
-tree_deep t c = fit_deep _ _ _ _ _ _ _ _ _ (λ e. omega (arith, e)) _ c.if1.true
+tree_deep : (t : ℕ) → fit-tree-lts.Need-returns-then-levels-eq0 (tree_calls t) (tree_at_lem t) fit-tree.Post
+tree_deep t c = fit_deep _ _ _ _ _ _ _ _ _ (λ e. omega (arith, e)) _ c.if-levels-eq0.true
 
-tree_left_ended : (t : ℕ) → fit-tree-lts.Need-returns-2 (tree_calls t) (tree_at_lem t) fit-tree.Post
-tree_left_ended t c = fit_left_ended _ _ _ _ _ _ _ _ _ (λ e. omega (arith, e)) _ c.if2.true
+tree_left_ended : (t : ℕ) → fit-tree-lts.Need-returns-then-left-at (tree_calls t) (tree_at_lem t) fit-tree.Post
+tree_left_ended t c = fit_left_ended _ _ _ _ _ _ _ _ _ (λ e. omega (arith, e)) _ c.if-left-at.true
 
-tree_term_ended : (t : ℕ) → fit-tree-lts.Need-returns-3 (tree_calls t) (tree_at_lem t) fit-tree.Post
-tree_term_ended t c = fit_term_ended _ _ _ _ _ _ _ _ _ (λ e. omega (arith, e)) _ c.if3.true
+tree_term_ended : (t : ℕ) → fit-tree-lts.Need-returns-then-term-to (tree_calls t) (tree_at_lem t) fit-tree.Post
+tree_term_ended t c = fit_term_ended _ _ _ _ _ _ _ _ _ (λ e. omega (arith, e)) _ c.if-term-to.true
 
-tree_variable_requires : (t : ℕ) → fit-tree-lts.Need-fit-variable-requires (tree_calls t) (tree_at_lem t) fit-tree.Post
+tree_variable_requires : (t : ℕ) → fit-tree-lts.Need-fit_variable-requires (tree_calls t) (tree_at_lem t) fit-tree.Post
 tree_variable_requires t c κs =
-    let p = c.before.before.before.before.before.before.before.before.before.before.requires.1 in (p.0, c.before.before.before.before.before.if2.false, c.before.before.before.before.if3.false, p.2, p.3, p.4, sym c.before.before.kind-of.ensures ∙ c.before.if4.true)
+    let p = c.before.before.before.before.before.before.before.before.before.before.requires.1 in (p.0, c.before.before.before.before.before.if-left-at.false, c.before.before.before.before.if-term-to.false, p.2, p.3, p.4, sym c.before.before.kind_of.ensures ∙ c.before.if-kind_of-eq-PATTERN.true)
 
-tree_variable : (t : ℕ) → fit-tree-lts.Need-returns-4 (tree_calls t) (tree_at_lem t) fit-tree.Post
-tree_variable t c = c.before.before.fit-variable.ensures _
+tree_variable : (t : ℕ) → fit-tree-lts.Need-returns-then-kind_of-eq-PATTERN (tree_calls t) (tree_at_lem t) fit-tree.Post
+tree_variable t c = c.before.before.fit_variable.ensures _
 
-tree_differ : (t : ℕ) → fit-tree-lts.Need-returns-5 (tree_calls t) (tree_at_lem t) fit-tree.Post
+tree_differ : (t : ℕ) → fit-tree-lts.Need-returns-then-w-term (tree_calls t) (tree_at_lem t) fit-tree.Post
 tree_differ t c =
     let s = c.before.before.before.before.before.before.before.before.before.before.before.args in
-    inner_differ s.vars s.d s.levels s.left.now s.at s.term.now s.to s.table.now _ c.before.before.before.before.before.before.if2.false c.before.before.before.before.before.if3.false
-    (λ e. c.before.before.if4.false (c.before.before.before.kind-of.ensures ∙ e)) c.if5.true
+    inner_differ s.vars s.d s.levels s.left.now s.at s.term.now s.to s.table.now _ c.before.before.before.before.before.before.if-left-at.false c.before.before.before.before.before.if-term-to.false
+    (λ e. c.before.before.if-kind_of-eq-PATTERN.false (c.before.before.before.kind_of.ensures ∙ e)) c.if-w-term.true
 
-tree_inside_requires : (t : ℕ) → fit-tree-lts.Need-inside-word-requires (tree_calls t) (tree_at_lem t) fit-tree.Post
+tree_inside_requires : (t : ℕ) → fit-tree-lts.Need-inside_word-inner-requires (tree_calls t) (tree_at_lem t) fit-tree.Post
 tree_inside_requires t c κs = omega (arith, c.before.before.before.before.before.before.before.before.before.before.before.requires.1.1)
 
-tree_row_requires : (t : ℕ) → fit-tree-lts.Need-fit-row-requires (tree_calls t) (tree_at_lem t) fit-tree.Post
+tree_row_requires : (t : ℕ) → fit-tree-lts.Need-fit_row-requires (tree_calls t) (tree_at_lem t) fit-tree.Post
 tree_row_requires t c κs =
     let start = c.before.before.before.before.before.before.before.before.before.before.before.before.before.before in
     let far = c.before.before.before.before.before.before.before.before.before.before in
     let s = start.args in
     let p = start.requires in (
-      omega (arith, p.0, far.if1.false),
-      (p.1.0, omega (arith, c.before.before.inside-word.ensures, inside_small (get_or s.left.now s.at 0) s.d, p.1.1, far.if1.false), p.1.2, p.1.3, p.1.4),
+      omega (arith, p.0, far.if-levels-eq0.false),
+      (p.1.0, omega (arith, c.before.before.inside_word-inner.ensures, inside_small (get_or s.left.now s.at 0) s.d, p.1.1, far.if-levels-eq0.false), p.1.2, p.1.3, p.1.4),
     )
 
-tree_inner : (t : ℕ) → fit-tree-lts.Need-returns-6 (tree_calls t) (tree_at_lem t) fit-tree.Post
+tree_inner : (t : ℕ) → fit-tree-lts.Need-returns (tree_calls t) (tree_at_lem t) fit-tree.Post
 tree_inner t c =
     let s = c.before.before.before.before.before.before.before.before.before.before.before.before.before.before.before.before.before.args in
-    inner_told s.vars s.d s.levels s.left.now s.at s.term.now s.to s.table.now _ c.before.before.before.before.before.before.before.before.before.before.before.before.if2.false c.before.before.before.before.before.before.before.before.before.before.before.if3.false
-    (λ e. c.before.before.before.before.before.before.before.before.if4.false (c.before.before.before.before.before.before.before.before.before.kind-of.ensures ∙ e)) c.before.before.before.before.before.before.if5.false _
-    (rw (c.before.before.before.before.count_of.ensures, c.before.before.before.before.before.inside-word.ensures) at c.before.before.Fit-row.ensures)
+    inner_told s.vars s.d s.levels s.left.now s.at s.term.now s.to s.table.now _ c.before.before.before.before.before.before.before.before.before.before.before.before.if-left-at.false c.before.before.before.before.before.before.before.before.before.before.before.if-term-to.false
+    (λ e. c.before.before.before.before.before.before.before.before.if-kind_of-eq-PATTERN.false (c.before.before.before.before.before.before.before.before.before.kind_of.ensures ∙ e)) c.before.before.before.before.before.before.if-w-term.false _
+    (rw (c.before.before.before.before.count_of-k.ensures, c.before.before.before.before.before.inside_word-inner.ensures) at c.before.before.fit_row.ensures)
 
-pub +fit-row-fit-tree-spec : {M : Type 1} → statement M
-+fit-row-fit-tree-spec = close row_falls tree_falls (λ t. fit-row-lts.spec (row_calls t) (row_at t) Fit-row.Post invariant-loop decreases-loop
+pub +fit_row_fit_tree_spec : {M : Type 1} → statement M
++fit_row_fit_tree_spec = close row_falls tree_falls (λ t. fit-row-lts.spec (row_calls t) (row_at t) Fit-row.Post invariant-loop-more decreases-loop-more
     (λ c. (refl, λ last r told. told))
     (row_requires t)
     (λ c. search rules)
@@ -140,7 +140,7 @@ pub +fit-row-fit-tree-spec : {M : Type 1} → statement M
     (λ c. search rules)
     (row_length t)
     (row_stuck t)
-    (λ c. c.before.loop.invariant.0)
+    (λ c. c.before.loop-more.invariant.0)
     (row_done t))
     λ t. fit-tree-lts.spec (tree_calls t) (tree_at_lem t) fit-tree.Post
     (tree_deep t)

@@ -5,10 +5,10 @@ use borrow.Author.Rules.{rules}
 use Rattle.fit.proofs.fitting.record_first.Statement.{statement}
 use Rattle.fit.proofs.fitting.record_first.Tie as tie
 
-slice_write_table_2 : tie.Need-slice-write-table-2
+slice_write_table_2 : tie.Need-bounds-table-own-2
 slice_write_table_2 c = simp length-set (omega arith)
 
-slice_write_table_3 : tie.Need-slice-write-table-3
+slice_write_table_3 : tie.Need-bounds-table-own-3
 slice_write_table_3 c = simp length-set (omega arith)
 
 pub record_first_spec : {M : Type 1} → statement M

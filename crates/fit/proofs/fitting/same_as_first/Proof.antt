@@ -9,34 +9,34 @@ use Rattle.fit.proofs.First.{first_is_lem, first_compared, first_absent}
 use Rattle.fit.proofs.fitting.same_as_first.Statement.{statement}
 use Rattle.fit.proofs.fitting.same_as_first.Tie as tie
 
-returns : tie.Need-returns
+returns : tie.Need-returns-then-not-there
 returns c =
     let start = c.before.before.before.before.before.before in
-    let s = start.args in first_absent s.left.now s.term.now s.table.now s.x start.requires.0 _ c.before.first_of.ensures (not-true _ c.if1.true) _ _ _ _
+    let s = start.args in first_absent s.left.now s.term.now s.table.now s.x start.requires.0 _ c.before.first_of-first.ensures (not-true _ c.if-not-there.true-raw) _ _ _ _
 
-mul_same_body : tie.Need-overflow-mul-same-body
-mul_same_body c = let f = first_is_lem _ _ _ _ c.before.before.before.before.before.before.before.requires.0 _ c.before.before.first_of.ensures (not-false _ c.before.if1.false) in omega (arith, f.inside)
+mul_same_body : tie.Need-offset_bounds-term-at
+mul_same_body c = let f = first_is_lem _ _ _ _ c.before.before.before.before.before.before.before.requires.0 _ c.before.before.first_of-first.ensures (not-false _ c.before.if-not-there.false-raw) in omega (arith, f.inside)
 
-sub_same_body : tie.Need-overflow-sub-same-body
-sub_same_body c = let f = first_is_lem _ _ _ _ c.before.before.before.before.before.before.before.requires.0 _ c.before.before.first_of.ensures (not-false _ c.before.if1.false) in f.inside
+sub_same_body : tie.Need-slice_bounds-same_body-count
+sub_same_body c = let f = first_is_lem _ _ _ _ c.before.before.before.before.before.before.before.requires.0 _ c.before.before.first_of-first.ensures (not-false _ c.before.if-not-there.false-raw) in f.inside
 
-part_same_body_start : tie.Need-slice-bounds-same-body-start
-part_same_body_start c = let f = first_is_lem _ _ _ _ c.before.before.before.before.before.before.before.requires.0 _ c.before.before.first_of.ensures (not-false _ c.before.if1.false) in f.inside
+part_same_body_start : tie.Need-slice_bounds-same_body-start
+part_same_body_start c = let f = first_is_lem _ _ _ _ c.before.before.before.before.before.before.before.requires.0 _ c.before.before.first_of-first.ensures (not-false _ c.before.if-not-there.false-raw) in f.inside
 
-array_share_prefix_ids : tie.Need-array-share-prefix-ids
-array_share_prefix_ids c = let f = first_is_lem _ _ _ _ c.before.before.before.before.before.before.before.before.requires.0 _ c.before.before.before.first_of.ensures (not-false _ c.before.before.if1.false) in omega (arith, f.four, f.few)
+array_share_prefix_ids : tie.Need-slice_bounds-ids-end
+array_share_prefix_ids c = let f = first_is_lem _ _ _ _ c.before.before.before.before.before.before.before.before.requires.0 _ c.before.before.before.first_of-first.ensures (not-false _ c.before.before.if-not-there.false-raw) in omega (arith, f.four, f.few)
 
-slice_aggregate_same_body : tie.Need-slice-aggregate-same-body
-slice_aggregate_same_body c = let f = first_is_lem _ _ _ _ c.before.before.before.before.before.before.before.before.before.requires.0 _ c.before.before.before.before.first_of.ensures (not-false _ c.before.before.before.if1.false) in sym (length-take-le _ _ (omega (arith, f.four, f.few)))
+slice_aggregate_same_body : tie.Need-slice_bounds-same_body-end-2
+slice_aggregate_same_body c = let f = first_is_lem _ _ _ _ c.before.before.before.before.before.before.before.before.before.requires.0 _ c.before.before.before.before.first_of-first.ensures (not-false _ c.before.before.before.if-not-there.false-raw) in sym (length-take-le _ _ (omega (arith, f.four, f.few)))
 
-returns_2 : tie.Need-returns-2
+returns_2 : tie.Need-returns
 returns_2 c =
     let start = c.before.before.before.before.before.before.before.before.before.before.before in
     let far = c.before.before.before.before.before.before in
     let s = start.args in
-    let f = first_is_lem _ _ _ _ start.requires.0 _ far.first_of.ensures (not-false _ c.before.before.before.before.before.if1.false) in
+    let f = first_is_lem _ _ _ _ start.requires.0 _ far.first_of-first.ensures (not-false _ c.before.before.before.before.before.if-not-there.false-raw) in
     rw (c.same_body.ensures, suffix _ s.term.now, suffix s.to s.term.now)
-    (first_compared s.left.now s.term.now s.table.now s.x start.requires.0 _ far.first_of.ensures f s.d s.list.now s.to)
+    (first_compared s.left.now s.term.now s.table.now s.x start.requires.0 _ far.first_of-first.ensures f s.d s.list.now s.to)
 
 pub same_as_first_spec : {M : Type 1} → statement M
 same_as_first_spec =

@@ -4,18 +4,18 @@ use Rattle.fit.proofs.OneRule.{other_kind, other_ident, same_ident}
 use Rattle.fit.proofs.rules.is_covered.Statement.{statement}
 use Rattle.fit.proofs.rules.is_covered.Tie as tie
 
-returns : tie.Need-returns
-returns c = let s = c.before.before.args in other_kind s.w s.v _ c.before.kind-of.ensures c.if1.true
+returns : tie.Need-returns-then-kind_of-ne-SYMBOL
+returns c = let s = c.before.before.args in other_kind s.w s.v _ c.before.kind_of.ensures c.if-kind_of-ne-SYMBOL.true
 
-returns_2 : tie.Need-returns-2
+returns_2 : tie.Need-returns-then-id_of
 returns_2 c =
     let s = c.before.before.before.before.before.args in
-    other_ident s.w s.v _ c.before.before.before.before.kind-of.ensures c.before.before.before.if1.false _ _ c.before.before.id-of.ensures c.before.id-of2.ensures c.if2.true
+    other_ident s.w s.v _ c.before.before.before.before.kind_of.ensures c.before.before.before.if-kind_of-ne-SYMBOL.false _ _ c.before.before.id_of.ensures c.before.id_of-2.ensures c.if-id_of.true
 
-returns_3 : tie.Need-returns-3
+returns_3 : tie.Need-returns
 returns_3 c =
     let s = c.before.before.before.before.before.before.before.args in
-    same_ident s.w s.v _ c.before.before.before.before.before.before.kind-of.ensures c.before.before.before.before.before.if1.false _ _ c.before.before.before.before.id-of.ensures c.before.before.before.id-of2.ensures c.before.before.if2.false _ _ c.before.count_of.ensures c.count-of2.ensures
+    same_ident s.w s.v _ c.before.before.before.before.before.before.kind_of.ensures c.before.before.before.before.before.if-kind_of-ne-SYMBOL.false _ _ c.before.before.before.before.id_of.ensures c.before.before.before.id_of-2.ensures c.before.before.if-id_of.false _ _ c.before.count_of.ensures c.count_of-2.ensures
 
 pub is_covered_spec : {M : Type 1} → statement M
 is_covered_spec = tie.close (tie.spec (λ c κs. search rules) returns (λ c κs. search rules) (λ c κs. search rules) returns_2 (λ c κs. search rules) (λ c κs. search rules) returns_3)

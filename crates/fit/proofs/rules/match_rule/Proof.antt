@@ -9,62 +9,62 @@ use Rattle.fit.proofs.Matched.{match_bad_book, match_no_rule, match_bad_term, ma
 use Rattle.fit.proofs.rules.match_rule.Statement.{statement}
 use Rattle.fit.proofs.rules.match_rule.Tie as tie
 
-returns : tie.Need-returns
+returns : tie.Need-returns-in-Refused
 returns c =
-    let s = c.before.before.before.before.before.before.before.before.before.before.before.before.before.before.args in
-    match_bad_book s.book.now s.number s.term.now (length s.bodies.now) _ _ c.before.before.before.before.before.before.before.before.before.clear.ensures (cleared _ _ _ c.before.before.before.before.before.before.clear-arg2.given.0.1 c.before.before.before.before.before.clear2.ensures) _ (sym c.before.before.before.before.accept-book.ensures ∙ c.before.before.answer.given.1) _ c.refuse.ensures
+    let s = c.before.before.before.before.before.before.before.before.before.before.before.before.args in
+    match_bad_book s.book.now s.number s.term.now (length s.bodies.now) _ _ c.before.before.before.before.before.before.before.clear.ensures (cleared _ _ _ c.before.before.before.before.clear-arg-2-1.given.0.1 c.before.before.before.clear-2.ensures) _ (sym c.before.before.accept_book.ensures ∙ c.before.in-Refused.is) _ c.refuse.ensures
 
-returns_2 : tie.Need-returns-2
+returns_2 : tie.Need-returns-in_default-find_rule
 returns_2 c =
-    let s = c.before.before.before.before.before.before.before.before.before.before.before.before.before.before.before.before.args in
-    match_no_rule s.book.now s.number s.term.now (length s.bodies.now) _ _ c.before.before.before.before.before.before.before.before.before.before.before.clear.ensures (cleared _ _ _ c.before.before.before.before.before.before.before.before.clear-arg2.given.0.1 c.before.before.before.before.before.before.before.clear2.ensures) (sym c.before.before.before.before.before.before.accept-book.ensures ∙ c.before.before.before.before.enum_told.given.1)
-    (sym c.before.before.before.find-rule.ensures ∙ c.before.enum-told2.given.1) _ c.refuse2.ensures
+    let s = c.before.before.before.before.before.before.before.before.before.before.before.before.before.before.args in
+    match_no_rule s.book.now s.number s.term.now (length s.bodies.now) _ _ c.before.before.before.before.before.before.before.before.before.clear.ensures (cleared _ _ _ c.before.before.before.before.before.before.clear-arg-2-1.given.0.1 c.before.before.before.before.before.clear-2.ensures) (sym c.before.before.before.before.accept_book.ensures ∙ c.before.before.before.in_default.is)
+    (sym c.before.before.find_rule.ensures ∙ c.before.in_default-find_rule.is) _ c.refuse-in_default-find_rule.ensures
 
-returns_3 : tie.Need-returns-3
+returns_3 : tie.Need-returns-in-Bad
 returns_3 c =
-    let s = c.before.before.before.before.before.before.before.before.before.before.before.before.before.before.before.before.before.before.before.before.before.args in
-    match_bad_term s.book.now s.number s.term.now (length s.bodies.now) _ _ c.before.before.before.before.before.before.before.before.before.before.before.before.before.before.before.before.clear.ensures (cleared _ _ _ c.before.before.before.before.before.before.before.before.before.before.before.before.before.clear-arg2.given.0.1 c.before.before.before.before.before.before.before.before.before.before.before.before.clear2.ensures) (sym c.before.before.before.before.before.before.before.before.before.before.before.accept-book.ensures ∙ c.before.before.before.before.before.before.before.before.before.enum_told.given.1)
-    _ (sym c.before.before.before.before.before.before.before.before.find-rule.ensures ∙ c.before.before.before.before.before.before.sides.given.1) _ (sym c.before.before.before.before.check_term.ensures ∙ c.before.before.at.given.1) _ c.refuse3.ensures
+    let s = c.before.before.before.before.before.before.before.before.before.before.before.before.before.before.before.before.args in
+    match_bad_term s.book.now s.number s.term.now (length s.bodies.now) _ _ c.before.before.before.before.before.before.before.before.before.before.before.clear.ensures (cleared _ _ _ c.before.before.before.before.before.before.before.before.clear-arg-2-1.given.0.1 c.before.before.before.before.before.before.before.clear-2.ensures) (sym c.before.before.before.before.before.before.accept_book.ensures ∙ c.before.before.before.before.before.in_default.is)
+    _ (sym c.before.before.before.before.find_rule.ensures ∙ c.before.before.before.in-Rule.is) _ (sym c.before.before.check_term.ensures ∙ c.before.in-Bad.is) _ c.refuse-in-Bad.ensures
 
-mul_fit_rule : tie.Need-overflow-mul-fit-rule
+mul_fit_rule : tie.Need-offset_bounds-book-left
 mul_fit_rule c =
-    let s = c.before.before.before.before.before.before.before.before.before.before.before.before.before.before.before.before.before.before.before.args in
-    let l = sides_lie s.book.now s.number s.term.now 0 (sym c.before.before.before.before.before.before.before.before.before.accept-book.ensures ∙ c.before.before.before.before.before.before.before.enum_told.given.1) _ (sym c.before.before.before.before.before.before.find-rule.ensures ∙ c.before.before.before.before.sides.given.1) in
+    let s = c.before.before.before.before.before.before.before.before.before.before.before.before.before.before.before.args in
+    let l = sides_lie s.book.now s.number s.term.now 0 (sym c.before.before.before.before.before.accept_book.ensures ∙ c.before.before.before.before.in_default.is) _ (sym c.before.before.before.find_rule.ensures ∙ c.before.before.in-Rule.is) in
     omega (arith, l.0, l.1)
 
-sub_fit_rule : tie.Need-overflow-sub-fit-rule
+sub_fit_rule : tie.Need-slice_bounds-fit_rule-count
 sub_fit_rule c =
-    let s = c.before.before.before.before.before.before.before.before.before.before.before.before.before.before.before.before.before.before.before.args in (sides_lie s.book.now s.number s.term.now 0 (sym c.before.before.before.before.before.before.before.before.before.accept-book.ensures ∙ c.before.before.before.before.before.before.before.enum_told.given.1) _ (sym c.before.before.before.before.before.before.find-rule.ensures ∙ c.before.before.before.before.sides.given.1)).0
+    let s = c.before.before.before.before.before.before.before.before.before.before.before.before.before.before.before.args in (sides_lie s.book.now s.number s.term.now 0 (sym c.before.before.before.before.before.accept_book.ensures ∙ c.before.before.before.before.in_default.is) _ (sym c.before.before.before.find_rule.ensures ∙ c.before.before.in-Rule.is)).0
 
-part_fit_rule_start : tie.Need-slice-bounds-fit-rule-start
+part_fit_rule_start : tie.Need-slice_bounds-fit_rule-start
 part_fit_rule_start c =
-    let s = c.before.before.before.before.before.before.before.before.before.before.before.before.before.before.before.before.before.before.before.args in (sides_lie s.book.now s.number s.term.now 0 (sym c.before.before.before.before.before.before.before.before.before.accept-book.ensures ∙ c.before.before.before.before.before.before.before.enum_told.given.1) _ (sym c.before.before.before.before.before.before.find-rule.ensures ∙ c.before.before.before.before.sides.given.1)).0
+    let s = c.before.before.before.before.before.before.before.before.before.before.before.before.before.before.before.args in (sides_lie s.book.now s.number s.term.now 0 (sym c.before.before.before.before.before.accept_book.ensures ∙ c.before.before.before.before.in_default.is) _ (sym c.before.before.before.find_rule.ensures ∙ c.before.before.in-Rule.is)).0
 
-part_fit_rule_end : tie.Need-slice-bounds-fit-rule-end
+part_fit_rule_end : tie.Need-slice_bounds-fit_rule-end
 part_fit_rule_end c =
-    let s = c.before.before.before.before.before.before.before.before.before.before.before.before.before.before.before.before.before.before.before.args in (sides_lie s.book.now s.number s.term.now 0 (sym c.before.before.before.before.before.before.before.before.before.accept-book.ensures ∙ c.before.before.before.before.before.before.before.enum_told.given.1) _ (sym c.before.before.before.before.before.before.find-rule.ensures ∙ c.before.before.before.before.sides.given.1)).1
+    let s = c.before.before.before.before.before.before.before.before.before.before.before.before.before.before.before.args in (sides_lie s.book.now s.number s.term.now 0 (sym c.before.before.before.before.before.accept_book.ensures ∙ c.before.before.before.before.in_default.is) _ (sym c.before.before.before.find_rule.ensures ∙ c.before.before.in-Rule.is)).1
 
-fit_rule_requires : tie.Need-fit-rule-requires
+fit_rule_requires : tie.Need-fit_rule-requires
 fit_rule_requires c κs =
-    let far = c.before.before.before.before.before.before.before.before.before.before.before.before.before.before.before.before.before.before in
-    let s = c.before.before.before.before.before.before.before.before.before.before.before.before.before.before.before.before.before.before.before.before.before.before.before.args in
-    let a = sym c.before.before.before.before.before.before.before.before.before.before.before.before.before.accept-book.ensures ∙ c.before.before.before.before.before.before.before.before.before.before.before.enum_told.given.1 in
-    let f = sym c.before.before.before.before.before.before.before.before.before.before.find-rule.ensures ∙ c.before.before.before.before.before.before.before.before.sides.given.1 in (
+    let far = c.before.before.before.before.before.before.before.before.before.before.before.before.before.before in
+    let s = c.before.before.before.before.before.before.before.before.before.before.before.before.before.before.before.before.before.before.before.args in
+    let a = sym c.before.before.before.before.before.before.before.before.before.accept_book.ensures ∙ c.before.before.before.before.before.before.before.before.in_default.is in
+    let f = sym c.before.before.before.before.before.before.before.find_rule.ensures ∙ c.before.before.before.before.before.before.in-Rule.is in (
       sides_few s.book.now s.number s.term.now 0 a _ f,
       left_begins s.book.now s.number s.term.now 0 a _ f,
       left_short s.book.now s.number s.term.now 0 a _ f,
-      term_begins s.book.now s.number s.term.now 0 a _ f (sym c.before.before.before.before.before.before.check_term.ensures ∙ c.before.before.before.before.enum-told3.given.1),
-      term_short s.book.now s.number s.term.now 0 a _ f (sym c.before.before.before.before.before.before.check_term.ensures ∙ c.before.before.before.before.enum-told3.given.1),
+      term_begins s.book.now s.number s.term.now 0 a _ f (sym c.before.before.before.before.before.check_term.ensures ∙ c.before.before.before.before.in_default-check_term.is),
+      term_short s.book.now s.number s.term.now 0 a _ f (sym c.before.before.before.before.before.check_term.ensures ∙ c.before.before.before.before.in_default-check_term.is),
       refl,
-      far.clear.ensures ∙ ap (λ (n : ℕ). replicate n 0) (sym far.clear.auto.0),
-      cleared _ _ _ c.before.before.before.before.before.before.before.before.before.before.before.before.before.before.before.clear-arg2.given.0.1 c.before.before.before.before.before.before.before.before.before.before.before.before.before.before.clear2.ensures,
+      far.clear.ensures ∙ ap (λ (n : ℕ). replicate n 0) (sym far.clear.auto.out),
+      cleared _ _ _ c.before.before.before.before.before.before.before.before.before.before.before.clear-arg-2-1.given.0.1 c.before.before.before.before.before.before.before.before.before.before.clear-2.ensures,
     )
 
-returns_4 : tie.Need-returns-4
+returns_4 : tie.Need-returns
 returns_4 c =
-    let s = c.before.before.before.before.before.before.before.before.before.before.before.before.before.before.before.before.before.before.before.before.before.before.before.before.before.before.before.args in
-    match_fits s.book.now s.number s.term.now (length s.bodies.now) (sym c.before.before.before.before.before.before.before.before.before.before.before.before.before.before.before.before.before.accept-book.ensures ∙ c.before.before.before.before.before.before.before.before.before.before.before.before.before.before.before.enum_told.given.1) _ (sym c.before.before.before.before.before.before.before.before.before.before.before.before.before.before.find-rule.ensures ∙ c.before.before.before.before.before.before.before.before.before.before.before.before.sides.given.1)
-    (sym c.before.before.before.before.before.before.before.before.before.before.check_term.ensures ∙ c.before.before.before.before.before.before.before.before.enum-told3.given.1) _ _ _ (rw c.before.before.before.before.before.before.before.before.before.before.before.before.before.before.before.before.before.before.before.before.before.before.clear.auto.0 at c.before.before.before.fit-rule.ensures)
+    let s = c.before.before.before.before.before.before.before.before.before.before.before.before.before.before.before.before.before.before.before.before.before.before.before.args in
+    match_fits s.book.now s.number s.term.now (length s.bodies.now) (sym c.before.before.before.before.before.before.before.before.before.before.before.before.before.accept_book.ensures ∙ c.before.before.before.before.before.before.before.before.before.before.before.before.in_default.is) _ (sym c.before.before.before.before.before.before.before.before.before.before.before.find_rule.ensures ∙ c.before.before.before.before.before.before.before.before.before.before.in-Rule.is)
+    (sym c.before.before.before.before.before.before.before.before.before.check_term.ensures ∙ c.before.before.before.before.before.before.before.before.in_default-check_term.is) _ _ _ (rw c.before.before.before.before.before.before.before.before.before.before.before.before.before.before.before.before.before.before.clear.auto.out at c.before.before.before.fit_rule.ensures)
 
 pub match_rule_spec : {M : Type 1} → statement M
 match_rule_spec =
