@@ -76,7 +76,7 @@ pub record HeadIs (h : Head) (f : Row) : Type 0 where
   pub is : f ≡ node head children rest
   pub same : word h ≡ word head
 
-pub head_is : (h : Head) (f : Row) → is_head h f ≡ true → HeadIs h f
+pub head_is_lem : (h : Head) (f : Row) → is_head h f ≡ true → HeadIs h f
 head_is_lem h nothing e = never (let z = head_nothing h in cc)
 head_is_lem h (node g kids rest) e =
     record { head = g; children = kids; rest = rest; is = refl; same = eqb-true (word h) (word g) (sym (head_node h g kids rest) ∙ e) }

@@ -128,12 +128,12 @@ lies_inside table at t l =
     let e : length table - at ≡ length (layout at t ++ l.0) = sym (length-drop at table) ∙ ap length l.1 in
     omega (arith, e, length-append (layout at t) l.0, length_layout at t, long_some t)
 
-append_nil : (l : List ℕ) → l ++ [] ≡ l
-append_nil [] = refl
-append_nil (x ∷ l) = ap (x ∷◌) (append_nil l)
+append-nil : (l : List ℕ) → l ++ [] ≡ l
+append-nil [] = refl
+append-nil (x ∷ l) = ap (x ∷◌) (append-nil l)
 
 pub whole_lies : (t : Tree) → Lies (layout 0 t) 0 t
-whole_lies t = ([], sym (append_nil (layout 0 t)))
+whole_lies t = ([], sym (append-nil (layout 0 t)))
 
 -- what follows so many words of what lies at an address
 lies_past : (table : List ℕ) (at to : ℕ) (pre rest : List ℕ) → drop at table ≡ pre ++ rest → to ≡ at + length pre → drop to table ≡ rest
