@@ -103,8 +103,8 @@ module _ (fixed : List ℕ) (long : length fixed ≡ 8256) (us : List Uncovered)
 
   -- ---- with a head there, at the spot r * 64 + o
   module _ (g : Head) (kids other : Left) (is : sub_at left P ≡ part g kids other) (full : wide kids ≤ c) (counts-so : count_of (word g) ≡ wide kids) where
-    head_is : head_at left P ≡ some g
-    head_is = head_sub left P ∙ ap head_here is
+    head_is_lem : head_at left P ≡ some g
+    head_is_lem = head_sub left P ∙ ap head_here is
 
     same_count : (f : Head) → ◌≡◌ {A = Option Head} (some f) (some g) → count_of (word f) ≡ count_of (word g)
     same_count f e = let z : f ≡ g = cc in ap (λ (h : Head). count_of (word h)) z

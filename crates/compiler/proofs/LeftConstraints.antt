@@ -1,7 +1,7 @@
 -- The constraints left in a row, read from the tables: its occurrences in order, those whose closedness is left, then those whose equality is left.
 use mathlib.Core.Path.{◌≡◌, refl, sym, ap, ap₂, ◌∙◌}
 use mathlib.Core.Bool.{Bool, true, false, ◌&&◌, not}
-use mathlib.Core.List.{List, [], ◌∷◌, ◌++◌, append_assoc, append_nil}
+use mathlib.Core.List.{List, [], ◌∷◌, ◌++◌, append_assoc, append-nil}
 use mathlib.Core.Option.{Option, none, some}
 use mathlib.Core.Logic.{inl, inr}
 use Prim.Native.Nat.{ℕ, zero, suc, ◌+◌, ◌*◌, ◌-◌, ◌/◌, ◌%◌, ◌≤◌, ◌<◌}
@@ -232,7 +232,7 @@ module _ (book fixed nums marks : List ℕ) (count : ℕ) (path : OnPath) (s : S
       below = before_below (r * 64) before ts t (rw (← e) at (ascending))
         where
           ascending : Ascends (r * 64) spots
-          ascending = rw (append_nil spots) at (spots_ascend (r * 64) [] 0 0 (left_in rule) [] tt)
+          ascending = rw (append-nil spots) at (spots_ascend (r * 64) [] 0 0 (left_in rule) [] tt)
 
       go : (q : Option Occurrence) → first_of t.1.var (named before) ≡ q → kind_of (get_or fixed t.0 0) ≡ 3 → FirstSpot t.0 before q (first_spot fixed t.0) → LaterAt fixed all_of t.0 t.1 q
       go none z w f = rw (w, eq-eqb (first_spot fixed t.0) t.0 f)

@@ -1,7 +1,7 @@
 -- The abstractions counted at an offset of a left side are those that its row has there: each word's part ends where its children do.
 use mathlib.Core.Path.{◌≡◌, refl, sym, ap, ◌∙◌}
 use mathlib.Core.Bool.{Bool, true, false}
-use mathlib.Core.List.{List, [], ◌∷◌, ◌++◌, append_assoc, append_nil}
+use mathlib.Core.List.{List, [], ◌∷◌, ◌++◌, append_assoc, append-nil}
 use Prim.Native.Nat.{ℕ, zero, suc, ◌+◌, ◌-◌, ◌≤◌, ◌<◌}
 use native.Mathlib.Omega.{arith}
 use native.Mathlib.Decide.{dec_le}
@@ -60,7 +60,7 @@ further : (at n : ℕ) (ws x y : List ℕ) → drop at ws ≡ x ++ y → length 
 further at n ws x y e h = sym (drop-drop n at ws) ∙ rw e (drop_at x y n h)
 
 words_tree : (h : Head) (kids : Row) → words (node h kids nothing) ≡ word h ∷ words kids
-words_tree h kids = words_node h kids nothing ∙ rw words_nothing (ap (word h ∷◌) (append_nil (words kids)))
+words_tree h kids = words_node h kids nothing ∙ rw words_nothing (ap (word h ∷◌) (append-nil (words kids)))
 
 tree_ends : (h : Head) (kids : Row) → FormedNode h kids nothing → (after : List ℕ) → part_end (word h ∷ (words kids ++ after)) ≡ 1 + length (words kids)
 tree_ends h kids n after =

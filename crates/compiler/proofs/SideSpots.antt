@@ -1,7 +1,7 @@
 -- A loaded left side stands at its spots: its words one after the other, the abstractions passed, and at the root alone a number.
 use mathlib.Core.Path.{◌≡◌, refl, sym, ap, ◌∙◌}
 use mathlib.Core.Bool.{Bool, true, false}
-use mathlib.Core.List.{List, [], ◌∷◌, ◌++◌, append_nil}
+use mathlib.Core.List.{List, [], ◌∷◌, ◌++◌, append-nil}
 use mathlib.Core.Option.{Option, none, some}
 use Prim.Native.Nat.{ℕ, suc, ◌+◌, ◌≤◌, ◌<◌}
 use native.Mathlib.Omega.{arith}
@@ -229,7 +229,7 @@ module _ (fixed nums ws : List ℕ) (base : ℕ) (worded : (o : ℕ) → o < len
       let n = formed_node h kids rest f in
       let u = sym (left_symbol 0 x c kids rest) ∙ s in
       let a = and_left (left_shape 0 kids) (left_shape 0 rest) u in
-      let t = node_at_lem ws 0 h kids rest [] f (e ∙ sym (append_nil (words (node h kids rest)))) in
+      let t = node_at_lem ws 0 h kids rest [] f (e ∙ sym (append-nil (words (node h kids rest)))) in
       let g : rest ≡ nothing = none_wide rest (omega (arith, w, width_node h kids rest)) in
       let y : left_of rest ≡ end = ap left_of g ∙ left_of_nothing in
       rw (left_of_symbol x c kids rest, y)

@@ -219,7 +219,9 @@ module _ (fixed nums : List ℕ) (us : List Uncovered) (p : ℕ → Bool) (only 
       let v : k + (1 + length ys + spread rest) ≡ k + 1 + length ys + spread rest = omega arith in
       let t : first_at p (suc k) (length ys + (spread rest + more)) ≡ first_at p (suc k + length ys) (spread rest + more) =
       first_skip p (length ys) (spread rest + more) (suc k) (λ j m n. only j (list_kinds fixed nums ys (suc k) l.3 (ids_small d ys f.1.listed (omega arith)) j m n)) in
-      rw (y, t, z, v, search_left (k + 1 + length ys) q (suc i) d rest l.4 f.2 w.1 (omega arith) (omega arith) more)
+      let e = search_left (k + 1 + length ys) q (suc i) d rest l.4 f.2 w.1 (omega arith) (omega arith) more in
+      rw (y, t, z)
+      (ap (pick (p k) k) (e ∙ ap (λ (n : ℕ). first_in p (first_at p n more) (occurrences_at (k + 1 + length ys) q (suc i) d rest)) (sym v)))
   search_left k q i d (part h kids rest) l g w a b more =
       let s = good_part vars d h kids rest g in
       let y : 1 + spread kids + spread rest + more ≡ suc (spread kids + (spread rest + more)) = omega arith in

@@ -171,7 +171,7 @@ pub new_struck : (fixed nums marks : List ℕ) (n r : ℕ) → (get_or marks r 0
 unfolding new_head
 new_struck fixed nums marks n r e = rw (ne_eqb (get_or marks r 0) 0 e)
 
-pub new_first : (fixed nums marks : List ℕ) (n r w : ℕ) → get_or marks r 0 ≡ 0 → w ≡ head_word fixed nums r n
+pub new_first_lem : (fixed nums marks : List ℕ) (n r w : ℕ) → get_or marks r 0 ≡ 0 → w ≡ head_word fixed nums r n
     → eqb (first_at (has_head fixed nums marks n w) 0 r) r ≡ true → w ≡ new_head fixed nums marks n r
 unfolding new_head
 new_first_lem fixed nums marks n r w e q t =
@@ -419,7 +419,7 @@ left_none fixed nums marks id other s e q = rw (← e, q)
 abbrev pub has_at : List ℕ → List ℕ → List ℕ → ℕ → ℕ → ℕ → Bool
 has_at fixed nums marks id r o = left_same fixed nums marks id (kind_from id + r * 64 + o)
 
-pub row_has : (fixed nums marks : List ℕ) (id r o : ℕ) → Searching (has_at fixed nums marks id r) 0 64 o → o < 64 → has_at fixed nums marks id r o ≡ true → true ≡ row_has fixed nums marks id r
+pub row_has_lem : (fixed nums marks : List ℕ) (id r o : ℕ) → Searching (has_at fixed nums marks id r) 0 64 o → o < 64 → has_at fixed nums marks id r o ≡ true → true ≡ row_has fixed nums marks id r
 unfolding row_has
 row_has_lem fixed nums marks id r o s h e =
     let z = search_found (has_at fixed nums marks id r) 0 64 o s (omega arith) e in

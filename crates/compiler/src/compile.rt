@@ -18,7 +18,7 @@ use tree::node::MOST_TREE;
 const NO_WORDS: u32 = 0;
 
 // The answer, and how many words the tree has; 0 where there is none.
-#[derive(Drop)]
+#[derive(Clone, Copy)]
 pub struct Compiled {
     pub answer: Answer,
     pub words: u32,

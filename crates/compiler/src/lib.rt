@@ -1,4 +1,6 @@
 // The compiler: from a book to its tree.
+#![tactic(auto)]
+
 pub mod compile;
 mod constraints;
 mod heads;

@@ -7,24 +7,24 @@ use Rattle.compiler.proofs.CompileLaws.{compile_refused}
 use Rattle.compiler.proofs.compile.compile.Statement.{statement}
 use Rattle.compiler.proofs.compile.compile.Tie as tie
 
-returns : tie.Need-returns
+returns : tie.Need-returns-in-Refused
 returns c =
-    let s = c.before.before.before.before.before.before.before.before.before.before.args in
-    compile_refused (length s.out.now) s.book.now _ _ (sym c.before.before.before.accept-book.ensures ∙ c.before.answer.given.1) c.before.before.before.before.before.before.clear.ensures
+    let s = c.before.before.before.before.before.before.before.before.args in
+    compile_refused (length s.out.now) s.book.now _ _ (sym c.before.accept_book.ensures ∙ c.in-Refused.is) c.before.before.before.before.clear.ensures
 
-compile_good_requires : tie.Need-compile-good-requires
+compile_good_requires : tie.Need-compile_good-requires
 compile_good_requires c κs =
-    let far = c.before.before.before.before.before.before.before.before.before in (
-      sym c.before.before.before.before.before.before.accept-book.ensures ∙ c.before.before.before.before.enum_told.given.1,
+    let far = c.before.before.before.before.before.before.before.before in (
+      sym c.before.before.before.before.before.accept_book.ensures ∙ c.before.before.before.before.in_default.is,
       refl,
       refl,
       refl,
-      far.clear.ensures ∙ ap (λ (n : ℕ). replicate n 0) (sym far.clear.auto.0),
+      far.clear.ensures ∙ ap (λ (n : ℕ). replicate n 0) (sym far.clear.auto.out),
     )
 
-returns_2 : tie.Need-returns-2
+returns_2 : tie.Need-returns
 returns_2 c =
-    rw c.before.before.before.before.before.before.before.before.before.before.before.before.before.before.before.clear.auto.0 at c.before.before.before.before.before.compile-good.ensures
+    rw c.before.before.before.before.before.before.before.before.before.before.before.before.before.before.clear.auto.out at c.before.before.before.before.before.compile_good.ensures
 
 pub compile_spec : {M : Type 1} → statement M
 compile_spec =

@@ -7,35 +7,35 @@ use Rattle.compiler.proofs.TableLaws.{struck_stays, struck_now, struck_not}
 use Rattle.compiler.proofs.constraints.having_mark.Statement.{statement}
 use Rattle.compiler.proofs.constraints.having_mark.Tie as tie
 
-shared_slice_read_if1 : tie.Need-shared-slice-read-if1
+shared_slice_read_if1 : tie.Need-bounds-marks-r
 shared_slice_read_if1 c =
     let start = c.before.before.before.before in
     omega (arith, start.requires.2, start.requires.5)
 
-shared_slice_read_result : tie.Need-shared-slice-read-result
+shared_slice_read_result : tie.Need-bounds-marks-r-then-marks-r-ne-FREE
 shared_slice_read_result c =
     let start = c.before.before.before.before.before.before in
     omega (arith, start.requires.2, start.requires.5)
 
-returns : tie.Need-returns
+returns : tie.Need-returns-then-marks-r-ne-FREE
 returns c =
     let start = c.before.before.before.before.before.before in
-    struck_stays (row_has start.args.fixed.now start.args.nums.now start.args.marks.now start.args.id) start.args.mark start.args.r _ c.before.if1.true
+    struck_stays (row_has start.args.fixed.now start.args.nums.now start.args.marks.now start.args.id) start.args.mark start.args.r _ c.before.if-marks-r-ne-FREE.true
 
-returns_2 : tie.Need-returns-2
+returns_2 : tie.Need-returns-then-row_has
 returns_2 c =
     let start = c.before.before.before.before.before.before.before in
-    struck_now (row_has start.args.fixed.now start.args.nums.now start.args.marks.now start.args.id) start.args.mark start.args.r _ start.requires.5 c.before.before.if1.false (sym c.before.row_has.ensures ∙ c.if2.true)
+    struck_now (row_has start.args.fixed.now start.args.nums.now start.args.marks.now start.args.id) start.args.mark start.args.r _ start.requires.5 c.before.before.if-marks-r-ne-FREE.false (sym c.before.row_has.ensures ∙ c.if-row_has.true)
 
-shared_slice_read_result_2 : tie.Need-shared-slice-read-result-2
+shared_slice_read_result_2 : tie.Need-bounds-marks-r-2
 shared_slice_read_result_2 c =
     let start = c.before.before.before.before.before.before.before.before in
     omega (arith, start.requires.2, start.requires.5)
 
-returns_3 : tie.Need-returns-3
+returns_3 : tie.Need-returns
 returns_3 c =
     let start = c.before.before.before.before.before.before.before.before in
-    struck_not (row_has start.args.fixed.now start.args.nums.now start.args.marks.now start.args.id) start.args.mark start.args.r _ c.before.before.before.if1.false (sym c.before.before.row_has.ensures ∙ c.before.if2.false)
+    struck_not (row_has start.args.fixed.now start.args.nums.now start.args.marks.now start.args.id) start.args.mark start.args.r _ c.before.before.before.if-marks-r-ne-FREE.false (sym c.before.before.row_has.ensures ∙ c.before.if-row_has.false)
 
 pub having_mark_spec : {M : Type 1} → statement M
 having_mark_spec =

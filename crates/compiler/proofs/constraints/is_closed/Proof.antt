@@ -6,15 +6,15 @@ use Rattle.compiler.proofs.TableLaws.{closed_no_lem, closed_is}
 use Rattle.compiler.proofs.constraints.is_closed.Statement.{statement}
 use Rattle.compiler.proofs.constraints.is_closed.Tie as tie
 
-returns : tie.Need-returns
+returns : tie.Need-returns-then-kind_of-ne-PATTERN
 returns c =
     let start = c.before.before.before.before in
-    closed_no_lem start.args.fixed.now start.args.k (λ e. c.if1.true (c.before.kind-of.ensures ∙ e))
+    closed_no_lem start.args.fixed.now start.args.k (λ e. c.if-kind_of-ne-PATTERN.true (c.before.kind_of.ensures ∙ e))
 
-returns_2 : tie.Need-returns-2
+returns_2 : tie.Need-returns
 returns_2 c =
     let start = c.before.before.before.before.before.before.before in
-    rw c.before.count_of.ensures (closed_is start.args.fixed.now start.args.k (sym c.before.before.before.before.kind-of.ensures ∙ c.before.before.before.if1.false))
+    rw c.before.count_of.ensures (closed_is start.args.fixed.now start.args.k (sym c.before.before.before.before.kind_of.ensures ∙ c.before.before.before.if-kind_of-ne-PATTERN.false))
 
 pub is_closed_spec : {M : Type 1} → statement M
 is_closed_spec =

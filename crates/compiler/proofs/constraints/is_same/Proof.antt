@@ -6,15 +6,15 @@ use Rattle.compiler.proofs.TableLaws.{same_no_lem, same_is}
 use Rattle.compiler.proofs.constraints.is_same.Statement.{statement}
 use Rattle.compiler.proofs.constraints.is_same.Tie as tie
 
-returns : tie.Need-returns
+returns : tie.Need-returns-then-kind_of-ne-PATTERN
 returns c =
     let start = c.before.before.before.before in
-    same_no_lem start.args.fixed.now start.args.k (λ e. c.if1.true (c.before.kind-of.ensures ∙ e))
+    same_no_lem start.args.fixed.now start.args.k (λ e. c.if-kind_of-ne-PATTERN.true (c.before.kind_of.ensures ∙ e))
 
-returns_2 : tie.Need-returns-2
+returns_2 : tie.Need-returns
 returns_2 c =
     let start = c.before.before.before.before.before in
-    same_is start.args.fixed.now start.args.k _ (sym c.before.before.kind-of.ensures ∙ c.before.if1.false) c.first-spot.ensures
+    same_is start.args.fixed.now start.args.k _ (sym c.before.before.kind_of.ensures ∙ c.before.if-kind_of-ne-PATTERN.false) c.first_spot.ensures
 
 pub is_same_spec : {M : Type 1} → statement M
 is_same_spec =

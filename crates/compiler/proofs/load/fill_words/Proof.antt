@@ -8,50 +8,50 @@ use Rattle.compiler.proofs.LoadLaws.{before_filled, after_filled, fill_step}
 use Rattle.compiler.proofs.load.fill_words.Statement.{statement}
 use Rattle.compiler.proofs.load.fill_words.Tie as tie
 
-abbrev invariant-loop : tie.invariant-loop
-invariant-loop left fixed₀ from o₀ fixed o = (o ≤ 64) × Sweeping (filled from (word_or left)) fixed₀ fixed (from + o)
+abbrev invariant-loop-o : tie.invariant-loop-o
+invariant-loop-o left fixed₀ from o₀ fixed o = (o ≤ 64) × Sweeping (filled from (word_or left)) fixed₀ fixed (from + o)
 
-abbrev decreases-loop : tie.decreases-loop
-decreases-loop left fixed₀ from o₀ fixed o = 64 - o
+abbrev decreases-loop-o : tie.decreases-loop-o
+decreases-loop-o left fixed₀ from o₀ fixed o = 64 - o
 
-loop_holds : tie.Need-loop-init invariant-loop decreases-loop
+loop_holds : tie.Need-loop-o-init invariant-loop-o decreases-loop-o
 loop_holds c =
     let s = c.before.before.args in
     (omega arith, sweep_start (filled s.from (word_or s.left.now)) s.fixed.now (s.from + 0) (λ k h. before_filled s.from (word_or s.left.now) k _ (omega arith)))
 
-add_fixed : tie.Need-overflow-add-fixed invariant-loop decreases-loop
-add_fixed c = omega (arith, c.before.loop-test.true, c.before.before.before.before.before.requires.1)
+add_fixed : tie.Need-overflow_add-fixed invariant-loop-o decreases-loop-o
+add_fixed c = omega (arith, c.before.loop-o-test.true, c.before.before.before.before.before.requires.1)
 
-mul_fixed : tie.Need-overflow-mul-fixed invariant-loop decreases-loop
-mul_fixed c = omega (arith, c.before.loop-test.true, c.before.before.before.before.before.requires.1)
+mul_fixed : tie.Need-offset_bounds-fixed-from invariant-loop-o decreases-loop-o
+mul_fixed c = omega (arith, c.before.loop-o-test.true, c.before.before.before.before.before.requires.1)
 
-slice_write_fixed : tie.Need-slice-write-fixed invariant-loop decreases-loop
+slice_write_fixed : tie.Need-bounds-fixed-from invariant-loop-o decreases-loop-o
 slice_write_fixed c =
     let start = c.before.before.before.before.before in
-    omega (arith, c.before.before.loop.invariant.1.long, c.before.loop-test.true, start.requires.0, start.requires.1)
+    omega (arith, c.before.before.loop-o.invariant.1.long, c.before.loop-o-test.true, start.requires.0, start.requires.1)
 
-loop_again : tie.Need-loop-preserved invariant-loop decreases-loop
+loop_again : tie.Need-loop-o-preserved invariant-loop-o decreases-loop-o
 loop_again c =
     let start = c.before.before.before.before.before in
-    let q = c.before.before.loop in let s = start.args in (
+    let q = c.before.before.loop-o in let s = start.args in (
       omega arith,
-      fill_step s.from (word_or s.left.now) s.fixed.now q.fixed q.o _ c.before.loop-test.true q.invariant.1 (omega (arith, q.invariant.1.long, c.before.loop-test.true, start.requires.0, start.requires.1)) c.word-or.ensures,
+      fill_step s.from (word_or s.left.now) s.fixed.now q.fixed q.o _ c.before.loop-o-test.true q.invariant.1 (omega (arith, q.invariant.1.long, c.before.loop-o-test.true, start.requires.0, start.requires.1)) c.word_or.ensures,
     )
 
-same_length : tie.Need-same-length invariant-loop decreases-loop
-same_length c = c.before.loop.invariant.1.long
+same_length : tie.Need-shape_of-fixed invariant-loop-o decreases-loop-o
+same_length c = c.before.loop-o.invariant.1.long
 
-returns : tie.Need-returns invariant-loop decreases-loop
+returns : tie.Need-returns invariant-loop-o decreases-loop-o
 returns c =
-    let q = c.before.loop in let s = c.before.before.before.before.args in
-    sweep_end (filled s.from (word_or s.left.now)) s.fixed.now q.fixed (s.from + q.o) q.invariant.1 (λ k h. after_filled s.from (word_or s.left.now) k _ (omega (arith, h, c.loop-test.false)))
+    let q = c.before.loop-o in let s = c.before.before.before.before.args in
+    sweep_end (filled s.from (word_or s.left.now)) s.fixed.now q.fixed (s.from + q.o) q.invariant.1 (λ k h. after_filled s.from (word_or s.left.now) k _ (omega (arith, h, c.loop-o-test.false)))
 
 pub fill_words_spec : {M : Type 1} → statement M
 fill_words_spec =
     tie.close
     (tie.spec
-    invariant-loop
-    decreases-loop
+    invariant-loop-o
+    decreases-loop-o
     loop_holds
     (λ c κs. search rules)
     add_fixed

@@ -6,8 +6,8 @@ use Rattle.compiler.proofs.LoadLaws.{row_loaded}
 use Rattle.compiler.proofs.load.load_row.Statement.{statement}
 use Rattle.compiler.proofs.load.load_row.Tie as tie
 
-same_length : tie.Need-same-length
-same_length c = simp length-set (c.before.before.fill-depths.auto.1.0 ∙ c.before.before.before.before.before.before.fill-words.auto.1.0)
+same_length : tie.Need-shape_of-fixed
+same_length c = simp length-set (c.before.before.fill_depths.auto.fixed ∙ c.before.before.before.before.before.before.fill_words.auto.fixed)
 
 returns : tie.Need-returns
 returns c =
@@ -15,7 +15,7 @@ returns c =
     let far = c.before.before.before.before.before.before in
     let far2 = c.before.before in
     let s = start.args in
-    row_loaded s.left.now s.vars s.r s.fixed.now _ _ start.requires.1 (far2.fill-depths.auto.1.0 ∙ far.fill-words.auto.1.0 ∙ start.requires.0) far.fill-words.ensures far2.fill-depths.ensures
+    row_loaded s.left.now s.vars s.r s.fixed.now _ _ start.requires.1 (far2.fill_depths.auto.fixed ∙ far.fill_words.auto.fixed ∙ start.requires.0) far.fill_words.ensures far2.fill_depths.ensures
 
 pub load_row_spec : {M : Type 1} → statement M
 load_row_spec =

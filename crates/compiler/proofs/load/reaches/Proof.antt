@@ -5,11 +5,11 @@ use Rattle.compiler.proofs.LoadLaws.{reach_no, reach_is}
 use Rattle.compiler.proofs.load.reaches.Statement.{statement}
 use Rattle.compiler.proofs.load.reaches.Tie as tie
 
-returns : tie.Need-returns
-returns c = let s = c.before.before.before.before.args in reach_no s.left.now s.o s.a (λ e. c.if1.true (c.before.kind-of.ensures ∙ e))
+returns : tie.Need-returns-then-kind_of-ne-ABSTRACTION
+returns c = let s = c.before.before.before.before.args in reach_no s.left.now s.o s.a (λ e. c.if-kind_of-ne-ABSTRACTION.true (c.before.kind_of.ensures ∙ e))
 
-returns_2 : tie.Need-returns-2
-returns_2 c = let s = c.before.before.before.before.before.before.args in reach_is s.left.now s.o s.a _ (sym c.before.before.before.kind-of.ensures ∙ c.before.before.if1.false) c.part_end.ensures
+returns_2 : tie.Need-returns
+returns_2 c = let s = c.before.before.before.before.before.before.args in reach_is s.left.now s.o s.a _ (sym c.before.before.before.kind_of.ensures ∙ c.before.before.if-kind_of-ne-ABSTRACTION.false) c.part_end.ensures
 
 pub reaches_spec : {M : Type 1} → statement M
 reaches_spec =

@@ -4,11 +4,11 @@ use borrow.Author.Tests.{eq-eqb, ne_eqb}
 use Rattle.compiler.proofs.load.root_number.Statement.{statement}
 use Rattle.compiler.proofs.load.root_number.Tie as tie
 
-returns : tie.Need-returns
-returns c = rw (eq-eqb (c.before.args.k % 64) 0 c.if1.true)
+returns : tie.Need-returns-then-k-eq0
+returns c = rw (eq-eqb (c.before.args.k % 64) 0 c.if-k-eq0.true)
 
-returns_2 : tie.Need-returns-2
-returns_2 c = rw (ne_eqb (c.before.args.k % 64) 0 c.if1.false)
+returns_2 : tie.Need-returns
+returns_2 c = rw (ne_eqb (c.before.args.k % 64) 0 c.if-k-eq0.false)
 
 pub root_number_spec : {M : Type 1} → statement M
 root_number_spec = tie.close (tie.spec returns returns_2)

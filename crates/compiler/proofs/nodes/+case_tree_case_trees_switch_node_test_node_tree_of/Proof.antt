@@ -112,549 +112,549 @@ test_node_calls t = (put-front-reads.Asked, put-front-reads.Learnt, put_reads.As
 abbrev tree_of_calls : ℕ → tree-of-lts.Claims
 tree_of_calls t = (first-row-reads.Asked, first-row-reads.Learnt, put_reads.Asked, put_reads.Learnt, lowest-open-reads.Asked, lowest-open-reads.Learnt, switch_node_below t, switch-node.Post, first-constraint-reads.Asked, first-constraint-reads.Learnt, test_node_below t, test-node.Post, put-leaf-reads.Asked, put-leaf-reads.Learnt)
 
-abbrev invariant-loop : case-trees-lts.invariant-loop
-invariant-loop fixed nums₀ marks₀ out₀ limit count slot at mark n to₀ a₀ r₀ nums marks out to a r = CasesSoFar fixed nums₀ marks₀ limit count slot at n out₀ nums marks out to a r
+abbrev invariant-loop-r : case-trees-lts.invariant-loop-r
+invariant-loop-r fixed nums₀ marks₀ out₀ limit count slot at mark n to₀ a₀ r₀ nums marks out to a r = CasesSoFar fixed nums₀ marks₀ limit count slot at n out₀ nums marks out to a r
 
-abbrev decreases-loop : case-trees-lts.decreases-loop
-decreases-loop fixed nums₀ marks₀ out₀ limit count slot at mark n to₀ a₀ r₀ nums marks out to a r = 64 - r
+abbrev decreases-loop-r : case-trees-lts.decreases-loop-r
+decreases-loop-r fixed nums₀ marks₀ out₀ limit count slot at mark n to₀ a₀ r₀ nums marks out to a r = 64 - r
 
-case_tree_drop_others_requires : (t : ℕ) → case-tree-lts.Need-drop-others-requires (case_tree_calls t) (case_tree_at t) case-tree.Post
+case_tree_drop_others_requires : (t : ℕ) → case-tree-lts.Need-drop_others-requires (case_tree_calls t) (case_tree_at t) case-tree.Post
 case_tree_drop_others_requires t c κs =
-    let start = c.before.before.before.before.before.before in
+    let start = c.before.before.before.before.before in
     let s = start.args in let p = start.requires in (p.1.0.sizes.0, p.1.0.sizes.1, p.1.0.sizes.2, omega (arith, p.1.0.known, case_places s.fixed.now s.nums.now s.marks.now s.limit s.count s.at s.mark s.n s.w p.1.0 p.1.1))
 
-case_tree_number_rows_requires : (t : ℕ) → case-tree-lts.Need-number-rows-requires (case_tree_calls t) (case_tree_at t) case-tree.Post
+case_tree_number_rows_requires : (t : ℕ) → case-tree-lts.Need-number_rows-requires (case_tree_calls t) (case_tree_at t) case-tree.Post
 case_tree_number_rows_requires t c κs =
-    let start = c.before.before.before.before.before.before.before.before.before.before.before in
-    let s = start.args in let p = start.requires in (p.1.0.sizes.0, p.1.0.sizes.1, c.before.before.before.before.drop-others.auto.1.1.0 ∙ p.1.0.sizes.2, omega (arith, p.1.0.known, case_places s.fixed.now s.nums.now s.marks.now s.limit s.count s.at s.mark s.n s.w p.1.0 p.1.1), case_places s.fixed.now s.nums.now s.marks.now s.limit s.count s.at s.mark s.n s.w p.1.0 p.1.1)
+    let start = c.before.before.before.before.before.before.before.before.before in
+    let s = start.args in let p = start.requires in (p.1.0.sizes.0, p.1.0.sizes.1, c.before.before.before.drop_others.auto.marks ∙ p.1.0.sizes.2, omega (arith, p.1.0.known, case_places s.fixed.now s.nums.now s.marks.now s.limit s.count s.at s.mark s.n s.w p.1.0 p.1.1), case_places s.fixed.now s.nums.now s.marks.now s.limit s.count s.at s.mark s.n s.w p.1.0 p.1.1)
 
-case_tree_mul_marks : (t : ℕ) → case-tree-lts.Need-overflow-mul-marks (case_tree_calls t) (case_tree_at t) case-tree.Post
+case_tree_mul_marks : (t : ℕ) → case-tree-lts.Need-offset_bounds-marks-n (case_tree_calls t) (case_tree_at t) case-tree.Post
 case_tree_mul_marks t c =
-    let start = c.before.before.before.before.before.before.before.before.before.before.before.before.before.before in
-    let s = start.args in let p = start.requires in omega (arith, p.1.0.known, case_places s.fixed.now s.nums.now s.marks.now s.limit s.count s.at s.mark s.n s.w p.1.0 p.1.1, c.before.before.before.before.before.before.before.drop-others.auto.1.1.0, p.1.0.sizes.2)
+    let start = c.before.before.before.before.before.before.before.before.before.before.before.before in
+    let s = start.args in let p = start.requires in omega (arith, p.1.0.known, case_places s.fixed.now s.nums.now s.marks.now s.limit s.count s.at s.mark s.n s.w p.1.0 p.1.1, c.before.before.before.before.before.before.drop_others.auto.marks, p.1.0.sizes.2)
 
-case_tree_slice_write_marks : (t : ℕ) → case-tree-lts.Need-slice-write-marks (case_tree_calls t) (case_tree_at t) case-tree.Post
+case_tree_slice_write_marks : (t : ℕ) → case-tree-lts.Need-bounds-marks-n (case_tree_calls t) (case_tree_at t) case-tree.Post
 case_tree_slice_write_marks t c =
-    let start = c.before.before.before.before.before.before.before.before.before.before.before.before.before.before in
-    let s = start.args in let p = start.requires in omega (arith, p.1.0.known, case_places s.fixed.now s.nums.now s.marks.now s.limit s.count s.at s.mark s.n s.w p.1.0 p.1.1, c.before.before.before.before.before.before.before.drop-others.auto.1.1.0, p.1.0.sizes.2)
+    let start = c.before.before.before.before.before.before.before.before.before.before.before.before in
+    let s = start.args in let p = start.requires in omega (arith, p.1.0.known, case_places s.fixed.now s.nums.now s.marks.now s.limit s.count s.at s.mark s.n s.w p.1.0 p.1.1, c.before.before.before.before.before.before.drop_others.auto.marks, p.1.0.sizes.2)
 
-case_tree_add_tree_of : (t : ℕ) → case-tree-lts.Need-overflow-add-tree-of (case_tree_calls t) (case_tree_at t) case-tree.Post
+case_tree_add_tree_of : (t : ℕ) → case-tree-lts.Need-overflow_add-count (case_tree_calls t) (case_tree_at t) case-tree.Post
 case_tree_add_tree_of t c =
-    let start = c.before.before.before.before.before.before.before.before.before.before.before.before.before.before.before.before.before.before in
-    let s = start.args in let p = start.requires in omega (arith, c.before.before.before.count_of.ensures, case_places s.fixed.now s.nums.now s.marks.now s.limit s.count s.at s.mark s.n s.w p.1.0 p.1.1)
+    let start = c.before.before.before.before.before.before.before.before.before.before.before.before.before.before.before.before in
+    let s = start.args in let p = start.requires in omega (arith, c.before.before.before.count_of-more.ensures, case_places s.fixed.now s.nums.now s.marks.now s.limit s.count s.at s.mark s.n s.w p.1.0 p.1.1)
 
-case_tree_tree_of_requires : (t : ℕ) → case-tree-lts.Need-tree-of-requires (case_tree_calls t) (case_tree_at t) case-tree.Post
+case_tree_tree_of_requires : (t : ℕ) → case-tree-lts.Need-tree_of-requires (case_tree_calls t) (case_tree_at t) case-tree.Post
 case_tree_tree_of_requires t c κs =
-    let start = c.before.before.before.before.before.before.before.before.before.before.before.before.before.before.before.before.before.before in
-    let far = c.before.before.before.before.before.before.before.before.before.before.before in
-    let s = start.args in let p = start.requires in let x = case_needs s.fixed.now s.nums.now s.marks.now s.limit s.count s.at s.mark s.n s.w p.1.0 p.1.1 s.out.now _ far.drop-others.auto.1.1.0 far.drop-others.ensures _ c.before.before.before.before.before.before.number-rows.ensures in (omega (arith, p.0, x.0), rw (← c.before.before.before.count_of.ensures) at x.1)
+    let start = c.before.before.before.before.before.before.before.before.before.before.before.before.before.before.before.before in
+    let far = c.before.before.before.before.before.before.before.before.before.before in
+    let s = start.args in let p = start.requires in let x = case_needs s.fixed.now s.nums.now s.marks.now s.limit s.count s.at s.mark s.n s.w p.1.0 p.1.1 s.out.now _ far.drop_others.auto.marks far.drop_others.ensures _ c.before.before.before.before.before.before.number_rows.ensures in (omega (arith, p.0, x.0), rw (← c.before.before.before.count_of-more.ensures) at x.1)
 
-case_tree_same_length : (t : ℕ) → case-tree-lts.Need-same-length (case_tree_calls t) (case_tree_at t) case-tree.Post
+case_tree_same_length : (t : ℕ) → case-tree-lts.Need-shape_of-nums-in_default (case_tree_calls t) (case_tree_at t) case-tree.Post
 case_tree_same_length t c =
-    c.before.before.before.before.before.before.before.before.tree_of.auto.1.0 ∙ c.before.before.before.before.before.before.before.before.before.before.before.before.before.before.before.number-rows.auto.1.0
+    c.before.before.before.before.before.before.before.tree_of.auto.nums ∙ c.before.before.before.before.before.before.before.before.before.before.before.before.before.before.number_rows.auto.nums
 
-case_tree_same_length_2 : (t : ℕ) → case-tree-lts.Need-same-length-2 (case_tree_calls t) (case_tree_at t) case-tree.Post
+case_tree_same_length_2 : (t : ℕ) → case-tree-lts.Need-shape_of-marks-in_default (case_tree_calls t) (case_tree_at t) case-tree.Post
 case_tree_same_length_2 t c =
-    let start = c.before.before.before.before.before.before.before.before.before.before.before.before.before.before.before.before.before.before.before.before.before.before.before.before.before.before.before in
-    let far = c.before.before.before.before.before.before.before.before.before.before.before.before.before.before.before.before.before.before.before.before in
-    let s = start.args in let p = start.requires in c.before.before.before.before.before.before.before.before.tree_of.auto.1.1.0 ∙ length-set far.drop-others.new.1.1.0 (64 + s.n) s.mark ∙ far.drop-others.auto.1.1.0
+    let start = c.before.before.before.before.before.before.before.before.before.before.before.before.before.before.before.before.before.before.before.before.before.before.before.before in
+    let far = c.before.before.before.before.before.before.before.before.before.before.before.before.before.before.before.before.before.before in
+    let s = start.args in let p = start.requires in c.before.before.before.before.before.before.before.tree_of.auto.marks ∙ length-set far.drop_others.new.marks (64 + s.n) s.mark ∙ far.drop_others.auto.marks
 
-case_tree_same_length_3 : (t : ℕ) → case-tree-lts.Need-same-length-3 (case_tree_calls t) (case_tree_at t) case-tree.Post
+case_tree_same_length_3 : (t : ℕ) → case-tree-lts.Need-shape_of-out-in_default (case_tree_calls t) (case_tree_at t) case-tree.Post
 case_tree_same_length_3 t c =
-    c.before.before.before.before.before.before.before.before.tree_of.auto.1.1.1.0
+    c.before.before.before.before.before.before.before.tree_of.auto.out
 
-case_tree_returns : (t : ℕ) → case-tree-lts.Need-returns (case_tree_calls t) (case_tree_at t) case-tree.Post
+case_tree_returns : (t : ℕ) → case-tree-lts.Need-returns-in_default (case_tree_calls t) (case_tree_at t) case-tree.Post
 case_tree_returns t c =
-    let start = c.before.before.before.before.before.before.before.before.before.before.before.before.before.before.before.before.before.before.before.before.before.before.before.before.before.before.before in
-    let far = c.before.before.before.before.before.before.before.before.before.before.before.before.before.before.before.before.before.before.before.before in
-    let s = start.args in let p = start.requires in (case_over s.fixed.now s.nums.now s.marks.now s.limit s.count s.at s.mark s.n s.w p.1.0 p.1.1 s.out.now _ far.drop-others.auto.1.1.0 far.drop-others.ensures _ c.before.before.before.before.before.before.before.before.before.before.before.before.before.before.before.number-rows.ensures _ _ _ _ (rw c.before.before.before.before.before.before.before.before.before.before.before.before.count_of.ensures at c.before.before.before.before.before.before.before.before.tree_of.ensures) c.enum_told.given.1, tt)
+    let start = c.before.before.before.before.before.before.before.before.before.before.before.before.before.before.before.before.before.before.before.before.before.before.before.before in
+    let far = c.before.before.before.before.before.before.before.before.before.before.before.before.before.before.before.before.before.before in
+    let s = start.args in let p = start.requires in (case_over s.fixed.now s.nums.now s.marks.now s.limit s.count s.at s.mark s.n s.w p.1.0 p.1.1 s.out.now _ far.drop_others.auto.marks far.drop_others.ensures _ c.before.before.before.before.before.before.before.before.before.before.before.before.before.before.number_rows.ensures _ _ _ _ (rw c.before.before.before.before.before.before.before.before.before.before.before.count_of-more.ensures at c.before.before.before.before.before.before.before.tree_of.ensures) c.in_default.is, tt)
 
 case_tree_forget_requires : (t : ℕ) → case-tree-lts.Need-forget-requires (case_tree_calls t) (case_tree_at t) case-tree.Post
 case_tree_forget_requires t c κs =
-    let start = c.before.before.before.before.before.before.before.before.before.before.before.before.before.before.before.before.before.before.before.before.before.before.before.before.before.before.before.before.before.before in
-    let s = start.args in let p = start.requires in (c.before.before.before.before.before.before.before.before.before.before.before.tree_of.auto.1.0 ∙ c.before.before.before.before.before.before.before.before.before.before.before.before.before.before.before.before.before.before.number-rows.auto.1.0 ∙ p.1.0.sizes.1, c.before.before.before.before.before.before.before.before.before.before.before.tree_of.auto.1.1.0 ∙ length-set c.before.before.before.before.before.before.before.before.before.before.before.before.before.before.before.before.before.before.before.before.before.before.before.drop-others.new.1.1.0 (64 + s.n) s.mark ∙ c.before.before.before.before.before.before.before.before.before.before.before.before.before.before.before.before.before.before.before.before.before.before.before.drop-others.auto.1.1.0 ∙ p.1.0.sizes.2)
+    let start = c.before.before.before.before.before.before.before.before.before.before.before.before.before.before.before.before.before.before.before.before.before.before.before.before.before in
+    let s = start.args in let p = start.requires in (c.before.before.before.before.before.before.before.before.tree_of.auto.nums ∙ c.before.before.before.before.before.before.before.before.before.before.before.before.before.before.before.number_rows.auto.nums ∙ p.1.0.sizes.1, c.before.before.before.before.before.before.before.before.tree_of.auto.marks ∙ length-set c.before.before.before.before.before.before.before.before.before.before.before.before.before.before.before.before.before.before.before.drop_others.new.marks (64 + s.n) s.mark ∙ c.before.before.before.before.before.before.before.before.before.before.before.before.before.before.before.before.before.before.before.drop_others.auto.marks ∙ p.1.0.sizes.2)
 
-case_tree_add_marks_2 : (t : ℕ) → case-tree-lts.Need-overflow-add-marks-2 (case_tree_calls t) (case_tree_at t) case-tree.Post
+case_tree_add_marks_2 : (t : ℕ) → case-tree-lts.Need-overflow_add-marks-2 (case_tree_calls t) (case_tree_at t) case-tree.Post
 case_tree_add_marks_2 t c =
-    let start = c.before.before.before.before.before.before.before.before.before.before.before.before.before.before.before.before.before.before.before.before.before.before.before.before.before.before.before.before.before.before.before.before.before in
+    let start = c.before.before.before.before.before.before.before.before.before.before.before.before.before.before.before.before.before.before.before.before.before.before.before.before.before.before.before.before in
     let s = start.args in let p = start.requires in omega (arith, p.1.0.known, case_places s.fixed.now s.nums.now s.marks.now s.limit s.count s.at s.mark s.n s.w p.1.0 p.1.1)
 
-case_tree_mul_marks_2 : (t : ℕ) → case-tree-lts.Need-overflow-mul-marks-2 (case_tree_calls t) (case_tree_at t) case-tree.Post
+case_tree_mul_marks_2 : (t : ℕ) → case-tree-lts.Need-offset_bounds-marks-n-2 (case_tree_calls t) (case_tree_at t) case-tree.Post
 case_tree_mul_marks_2 t c =
-    let start = c.before.before.before.before.before.before.before.before.before.before.before.before.before.before.before.before.before.before.before.before.before.before.before.before.before.before.before.before.before.before.before.before.before in
+    let start = c.before.before.before.before.before.before.before.before.before.before.before.before.before.before.before.before.before.before.before.before.before.before.before.before.before.before.before.before in
     let s = start.args in let p = start.requires in omega (arith, p.1.0.known, case_places s.fixed.now s.nums.now s.marks.now s.limit s.count s.at s.mark s.n s.w p.1.0 p.1.1)
 
-case_tree_slice_write_marks_2 : (t : ℕ) → case-tree-lts.Need-slice-write-marks-2 (case_tree_calls t) (case_tree_at t) case-tree.Post
+case_tree_slice_write_marks_2 : (t : ℕ) → case-tree-lts.Need-bounds-marks-n-2 (case_tree_calls t) (case_tree_at t) case-tree.Post
 case_tree_slice_write_marks_2 t c =
-    let start = c.before.before.before.before.before.before.before.before.before.before.before.before.before.before.before.before.before.before.before.before.before.before.before.before.before.before.before.before.before.before.before.before.before in
-    let s = start.args in let p = start.requires in omega (arith, p.1.0.known, case_places s.fixed.now s.nums.now s.marks.now s.limit s.count s.at s.mark s.n s.w p.1.0 p.1.1, c.before.before.before.before.before.before.before.before.before.before.before.before.before.before.tree_of.auto.1.1.0 ∙ length-set c.before.before.before.before.before.before.before.before.before.before.before.before.before.before.before.before.before.before.before.before.before.before.before.before.before.before.drop-others.new.1.1.0 (64 + s.n) s.mark ∙ c.before.before.before.before.before.before.before.before.before.before.before.before.before.before.before.before.before.before.before.before.before.before.before.before.before.before.drop-others.auto.1.1.0 ∙ p.1.0.sizes.2)
+    let start = c.before.before.before.before.before.before.before.before.before.before.before.before.before.before.before.before.before.before.before.before.before.before.before.before.before.before.before.before in
+    let s = start.args in let p = start.requires in omega (arith, p.1.0.known, case_places s.fixed.now s.nums.now s.marks.now s.limit s.count s.at s.mark s.n s.w p.1.0 p.1.1, c.before.before.before.before.before.before.before.before.before.before.before.tree_of.auto.marks ∙ length-set c.before.before.before.before.before.before.before.before.before.before.before.before.before.before.before.before.before.before.before.before.before.before.drop_others.new.marks (64 + s.n) s.mark ∙ c.before.before.before.before.before.before.before.before.before.before.before.before.before.before.before.before.before.before.before.before.before.before.drop_others.auto.marks ∙ p.1.0.sizes.2)
 
 case_tree_unmark_requires : (t : ℕ) → case-tree-lts.Need-unmark-requires (case_tree_calls t) (case_tree_at t) case-tree.Post
 case_tree_unmark_requires t c κs =
-    let start = c.before.before.before.before.before.before.before.before.before.before.before.before.before.before.before.before.before.before.before.before.before.before.before.before.before.before.before.before.before.before.before.before.before.before in
-    let s = start.args in let p = start.requires in length-set c.before.before.before.before.before.before.before.before.before.before.before.before.before.before.before.tree_of.new.1.1.0 (64 + s.n) 0 ∙ c.before.before.before.before.before.before.before.before.before.before.before.before.before.before.before.tree_of.auto.1.1.0 ∙ length-set c.before.before.before.before.before.before.before.before.before.before.before.before.before.before.before.before.before.before.before.before.before.before.before.before.before.before.before.drop-others.new.1.1.0 (64 + s.n) s.mark ∙ c.before.before.before.before.before.before.before.before.before.before.before.before.before.before.before.before.before.before.before.before.before.before.before.before.before.before.before.drop-others.auto.1.1.0 ∙ p.1.0.sizes.2
+    let start = c.before.before.before.before.before.before.before.before.before.before.before.before.before.before.before.before.before.before.before.before.before.before.before.before.before.before.before.before.before in
+    let s = start.args in let p = start.requires in length-set c.before.before.before.before.before.before.before.before.before.before.before.before.tree_of.new.marks (64 + s.n) 0 ∙ c.before.before.before.before.before.before.before.before.before.before.before.before.tree_of.auto.marks ∙ length-set c.before.before.before.before.before.before.before.before.before.before.before.before.before.before.before.before.before.before.before.before.before.before.before.drop_others.new.marks (64 + s.n) s.mark ∙ c.before.before.before.before.before.before.before.before.before.before.before.before.before.before.before.before.before.before.before.before.before.before.before.drop_others.auto.marks ∙ p.1.0.sizes.2
 
-case_tree_same_length_4 : (t : ℕ) → case-tree-lts.Need-same-length-4 (case_tree_calls t) (case_tree_at t) case-tree.Post
+case_tree_same_length_4 : (t : ℕ) → case-tree-lts.Need-shape_of-nums (case_tree_calls t) (case_tree_at t) case-tree.Post
 case_tree_same_length_4 t c =
-    c.before.before.before.before.before.before.forget.auto.0 ∙ c.before.before.before.before.before.before.before.before.before.before.before.before.before.before.before.before.before.before.tree_of.auto.1.0 ∙ c.before.before.before.before.before.before.before.before.before.before.before.before.before.before.before.before.before.before.before.before.before.before.before.before.before.number-rows.auto.1.0
+    c.before.before.before.before.before.before.forget.auto.nums ∙ c.before.before.before.before.before.before.before.before.before.before.before.before.before.before.before.tree_of.auto.nums ∙ c.before.before.before.before.before.before.before.before.before.before.before.before.before.before.before.before.before.before.before.before.before.before.number_rows.auto.nums
 
-case_tree_same_length_5 : (t : ℕ) → case-tree-lts.Need-same-length-5 (case_tree_calls t) (case_tree_at t) case-tree.Post
+case_tree_same_length_5 : (t : ℕ) → case-tree-lts.Need-shape_of-marks (case_tree_calls t) (case_tree_at t) case-tree.Post
 case_tree_same_length_5 t c =
-    let start = c.before.before.before.before.before.before.before.before.before.before.before.before.before.before.before.before.before.before.before.before.before.before.before.before.before.before.before.before.before.before.before.before.before.before.before.before.before in
-    let far = c.before.before.before.before.before.before.before.before.before.before.before.before.before.before.before.before.before.before.before.before.before.before.before.before.before.before.before.before.before.before in
-    let s = start.args in let p = start.requires in c.before.before.unmark.auto.0 ∙ length-set c.before.before.before.before.before.before.before.before.before.before.before.before.before.before.before.before.before.before.tree_of.new.1.1.0 (64 + s.n) 0 ∙ c.before.before.before.before.before.before.before.before.before.before.before.before.before.before.before.before.before.before.tree_of.auto.1.1.0 ∙ length-set far.drop-others.new.1.1.0 (64 + s.n) s.mark ∙ far.drop-others.auto.1.1.0
+    let start = c.before.before.before.before.before.before.before.before.before.before.before.before.before.before.before.before.before.before.before.before.before.before.before.before.before.before.before.before.before.before.before.before in
+    let far = c.before.before.before.before.before.before.before.before.before.before.before.before.before.before.before.before.before.before.before.before.before.before.before.before.before.before in
+    let s = start.args in let p = start.requires in c.before.before.unmark.auto.marks ∙ length-set c.before.before.before.before.before.before.before.before.before.before.before.before.before.before.before.tree_of.new.marks (64 + s.n) 0 ∙ c.before.before.before.before.before.before.before.before.before.before.before.before.before.before.before.tree_of.auto.marks ∙ length-set far.drop_others.new.marks (64 + s.n) s.mark ∙ far.drop_others.auto.marks
 
-case_tree_same_length_6 : (t : ℕ) → case-tree-lts.Need-same-length-6 (case_tree_calls t) (case_tree_at t) case-tree.Post
+case_tree_same_length_6 : (t : ℕ) → case-tree-lts.Need-shape_of-out (case_tree_calls t) (case_tree_at t) case-tree.Post
 case_tree_same_length_6 t c =
-    c.before.before.before.before.before.before.before.before.before.before.before.before.before.before.before.before.before.before.tree_of.auto.1.1.1.0
+    c.before.before.before.before.before.before.before.before.before.before.before.before.before.before.before.tree_of.auto.out
 
-case_tree_returns_2 : (t : ℕ) → case-tree-lts.Need-returns-2 (case_tree_calls t) (case_tree_at t) case-tree.Post
+case_tree_returns_2 : (t : ℕ) → case-tree-lts.Need-returns (case_tree_calls t) (case_tree_at t) case-tree.Post
 case_tree_returns_2 t c =
-    let start = c.before.before.before.before.before.before.before.before.before.before.before.before.before.before.before.before.before.before.before.before.before.before.before.before.before.before.before.before.before.before.before.before.before.before.before.before.before in
-    let far = c.before.before.before.before.before.before.before.before.before.before.before.before.before.before.before.before.before.before.before.before.before.before.before.before.before.before.before.before.before.before in
+    let start = c.before.before.before.before.before.before.before.before.before.before.before.before.before.before.before.before.before.before.before.before.before.before.before.before.before.before.before.before.before.before.before.before in
+    let far = c.before.before.before.before.before.before.before.before.before.before.before.before.before.before.before.before.before.before.before.before.before.before.before.before.before.before in
     let far2 = c.before.before.before.before.before.before in
     let far3 = c.before.before in
-    let s = start.args in let p = start.requires in case_done s.fixed.now s.nums.now s.marks.now s.limit s.count s.at s.mark s.n s.w p.1.0 p.1.1 s.out.now _ far.drop-others.auto.1.1.0 far.drop-others.ensures _ c.before.before.before.before.before.before.before.before.before.before.before.before.before.before.before.before.before.before.before.before.before.before.before.before.before.number-rows.ensures _ _ _ _ (rw c.before.before.before.before.before.before.before.before.before.before.before.before.before.before.before.before.before.before.before.before.before.before.count_of.ensures at c.before.before.before.before.before.before.before.before.before.before.before.before.before.before.before.before.before.before.tree_of.ensures) _ c.before.before.before.before.before.before.before.before.before.before.next.given.1 _ _ far2.forget.auto.0 far2.forget.ensures far3.unmark.auto.0 far3.unmark.ensures
+    let s = start.args in let p = start.requires in case_done s.fixed.now s.nums.now s.marks.now s.limit s.count s.at s.mark s.n s.w p.1.0 p.1.1 s.out.now _ far.drop_others.auto.marks far.drop_others.ensures _ c.before.before.before.before.before.before.before.before.before.before.before.before.before.before.before.before.before.before.before.before.before.before.number_rows.ensures _ _ _ _ (rw c.before.before.before.before.before.before.before.before.before.before.before.before.before.before.before.before.before.before.before.count_of-more.ensures at c.before.before.before.before.before.before.before.before.before.before.before.before.before.before.before.tree_of.ensures) _ c.before.before.before.before.before.before.before.before.in-Done.is _ _ far2.forget.auto.nums far2.forget.ensures far3.unmark.auto.marks far3.unmark.ensures
 
-case_trees_loop_holds : (t : ℕ) → case-trees-lts.Need-loop-init (case_trees_calls t) (case_trees_at t) case-trees.Post invariant-loop decreases-loop
+case_trees_loop_holds : (t : ℕ) → case-trees-lts.Need-loop-r-init (case_trees_calls t) (case_trees_at t) case-trees.Post invariant-loop-r decreases-loop-r
 case_trees_loop_holds t c =
     let s = c.before.before.before.before.args in let p = c.before.before.before.before.requires in so_far_start s.fixed.now s.nums.now s.marks.now s.limit s.count s.slot s.at s.mark s.n s.out.now p.1
 
-case_trees_new_head_requires : (t : ℕ) → case-trees-lts.Need-new-head-requires (case_trees_calls t) (case_trees_at t) case-trees.Post invariant-loop decreases-loop
+case_trees_new_head_requires : (t : ℕ) → case-trees-lts.Need-new_head-w-requires (case_trees_calls t) (case_trees_at t) case-trees.Post invariant-loop-r decreases-loop-r
 case_trees_new_head_requires t c κs =
-    let start = c.before.before.before.before.before.before.before.before in
-    let s = start.args in let p = start.requires in let q = c.before.before.before.loop in let z = sizes_are s.fixed.now s.nums.now s.marks.now s.limit s.count s.slot s.at s.mark s.n s.out.now p.1 q.nums q.marks q.out q.to q.a q.r q.invariant in (z.0, z.1, z.2, c.before.before.loop-test.true, place_low s.fixed.now s.nums.now s.marks.now s.limit s.count s.slot s.at s.mark s.n s.out.now p.1)
+    let start = c.before.before.before.before.before.before in
+    let s = start.args in let p = start.requires in let q = c.before.loop-r in let z = sizes_are s.fixed.now s.nums.now s.marks.now s.limit s.count s.slot s.at s.mark s.n s.out.now p.1 q.nums q.marks q.out q.to q.a q.r q.invariant in (z.0, z.1, z.2, c.loop-r-test.true, place_low s.fixed.now s.nums.now s.marks.now s.limit s.count s.slot s.at s.mark s.n s.out.now p.1)
 
-case_trees_loop_again : (t : ℕ) → case-trees-lts.Need-loop-preserved (case_trees_calls t) (case_trees_at t) case-trees.Post invariant-loop decreases-loop
+case_trees_loop_again : (t : ℕ) → case-trees-lts.Need-loop-r-preserved-then-w-eq-NO_HEAD (case_trees_calls t) (case_trees_at t) case-trees.Post invariant-loop-r decreases-loop-r
 case_trees_loop_again t c =
-    let s = c.before.before.before.before.before.before.before.before.before.before.args in let p = c.before.before.before.before.before.before.before.before.before.before.requires in let q = c.before.before.before.before.before.loop in so_far_skip s.fixed.now s.nums.now s.marks.now s.limit s.count s.slot s.at s.mark s.n s.out.now p.1 q.nums q.marks q.out q.to q.a q.r q.invariant c.before.before.before.before.loop-test.true _ c.before.new-head.ensures c.if1.true
+    let s = c.before.before.before.before.before.before.before.before.args in let p = c.before.before.before.before.before.before.before.before.requires in let q = c.before.before.before.loop-r in so_far_skip s.fixed.now s.nums.now s.marks.now s.limit s.count s.slot s.at s.mark s.n s.out.now p.1 q.nums q.marks q.out q.to q.a q.r q.invariant c.before.before.loop-r-test.true _ c.before.new_head-w.ensures c.if-w-eq-NO_HEAD.true
 
-case_trees_add_put : (t : ℕ) → case-trees-lts.Need-overflow-add-put (case_trees_calls t) (case_trees_at t) case-trees.Post invariant-loop decreases-loop
+case_trees_add_put : (t : ℕ) → case-trees-lts.Need-overflow_add-to (case_trees_calls t) (case_trees_at t) case-trees.Post invariant-loop-r decreases-loop-r
 case_trees_add_put t c =
-    let start = c.before.before.before.before.before.before.before.before.before.before.before.before.before.before.before in
-    let s = start.args in let p = start.requires in let q = c.before.before.before.before.before.before.before.before.before.before.loop in omega (arith, to_small s.fixed.now s.nums.now s.marks.now s.limit s.count s.slot s.at s.mark s.n s.out.now p.1 q.nums q.marks q.out q.to q.a q.r q.invariant)
+    let start = c.before.before.before.before.before.before.before.before.before.before.before.before.before in
+    let s = start.args in let p = start.requires in let q = c.before.before.before.before.before.before.before.before.loop-r in omega (arith, to_small s.fixed.now s.nums.now s.marks.now s.limit s.count s.slot s.at s.mark s.n s.out.now p.1 q.nums q.marks q.out q.to q.a q.r q.invariant)
 
-case_trees_cast_put : (t : ℕ) → case-trees-lts.Need-overflow-cast-put (case_trees_calls t) (case_trees_at t) case-trees.Post invariant-loop decreases-loop
+case_trees_cast_put : (t : ℕ) → case-trees-lts.Need-overflow_cast-a (case_trees_calls t) (case_trees_at t) case-trees.Post invariant-loop-r decreases-loop-r
 case_trees_cast_put t c =
-    let start = c.before.before.before.before.before.before.before.before.before.before.before.before.before.before.before in
-    let s = start.args in let p = start.requires in let q = c.before.before.before.before.before.before.before.before.before.before.loop in omega (arith, q.invariant.high, p.1.0.within.0)
+    let start = c.before.before.before.before.before.before.before.before.before.before.before.before.before in
+    let s = start.args in let p = start.requires in let q = c.before.before.before.before.before.before.before.before.loop-r in omega (arith, q.invariant.high, p.1.0.within.0)
 
-case_trees_case_tree_requires : (t : ℕ) → case-trees-lts.Need-case-tree-requires (case_trees_calls t) (case_trees_at t) case-trees.Post invariant-loop decreases-loop
+case_trees_case_tree_requires : (t : ℕ) → case-trees-lts.Need-case_tree-requires (case_trees_calls t) (case_trees_at t) case-trees.Post invariant-loop-r decreases-loop-r
 case_trees_case_tree_requires t c κs =
-    let start = c.before.before.before.before.before.before.before.before.before.before.before.before.before.before.before.before.before.before.before.before.before in
-    let s = start.args in let p = start.requires in let q = c.before.before.before.before.before.before.before.before.before.before.before.before.before.before.before.before.loop in (omega (arith, p.0, left_same_lem s.fixed.now s.nums.now s.marks.now s.limit s.count s.slot s.at s.mark s.n s.out.now p.1 q.nums q.marks q.out q.to q.a q.r q.invariant), case_tree_needs s.fixed.now s.nums.now s.marks.now s.limit s.count s.slot s.at s.mark s.n s.out.now p.1 q.nums q.marks q.out q.to q.a q.r q.invariant c.before.before.before.before.before.before.before.before.before.before.before.before.before.before.before.loop-test.true _ c.before.before.before.before.before.before.before.before.before.before.before.before.new-head.ensures c.before.before.before.before.before.before.before.before.before.before.before.if1.false)
+    let start = c.before.before.before.before.before.before.before.before.before.before.before.before.before.before.before.before.before.before.before in
+    let s = start.args in let p = start.requires in let q = c.before.before.before.before.before.before.before.before.before.before.before.before.before.before.loop-r in (omega (arith, p.0, left_same_lem s.fixed.now s.nums.now s.marks.now s.limit s.count s.slot s.at s.mark s.n s.out.now p.1 q.nums q.marks q.out q.to q.a q.r q.invariant), case_tree_needs s.fixed.now s.nums.now s.marks.now s.limit s.count s.slot s.at s.mark s.n s.out.now p.1 q.nums q.marks q.out q.to q.a q.r q.invariant c.before.before.before.before.before.before.before.before.before.before.before.before.before.loop-r-test.true _ c.before.before.before.before.before.before.before.before.before.before.before.before.new_head-w.ensures c.before.before.before.before.before.before.before.before.before.before.before.if-w-eq-NO_HEAD.false)
 
-case_trees_same_length : (t : ℕ) → case-trees-lts.Need-same-length (case_trees_calls t) (case_trees_at t) case-trees.Post invariant-loop decreases-loop
+case_trees_same_length : (t : ℕ) → case-trees-lts.Need-shape_of-nums-in_default (case_trees_calls t) (case_trees_at t) case-trees.Post invariant-loop-r decreases-loop-r
 case_trees_same_length t c =
-    let start = c.before.before.before.before.before.before.before.before.before.before.before.before.before.before.before.before.before.before.before.before.before.before.before.before.before.before.before.before.before.before in
-    let s = start.args in let p = start.requires in let q = c.before.before.before.before.before.before.before.before.before.before.before.before.before.before.before.before.before.before.before.before.before.before.before.before.before.loop in c.before.before.before.before.before.before.before.before.case-tree.auto.1.0 ∙ ap length q.invariant.nums_same
+    let start = c.before.before.before.before.before.before.before.before.before.before.before.before.before.before.before.before.before.before.before.before.before.before.before.before.before.before.before in
+    let s = start.args in let p = start.requires in let q = c.before.before.before.before.before.before.before.before.before.before.before.before.before.before.before.before.before.before.before.before.before.before.loop-r in c.before.before.before.before.before.before.before.case_tree.auto.nums ∙ ap length q.invariant.nums_same
 
-case_trees_same_length_2 : (t : ℕ) → case-trees-lts.Need-same-length-2 (case_trees_calls t) (case_trees_at t) case-trees.Post invariant-loop decreases-loop
+case_trees_same_length_2 : (t : ℕ) → case-trees-lts.Need-shape_of-marks-in_default (case_trees_calls t) (case_trees_at t) case-trees.Post invariant-loop-r decreases-loop-r
 case_trees_same_length_2 t c =
-    let start = c.before.before.before.before.before.before.before.before.before.before.before.before.before.before.before.before.before.before.before.before.before.before.before.before.before.before.before.before.before.before in
-    let s = start.args in let p = start.requires in let q = c.before.before.before.before.before.before.before.before.before.before.before.before.before.before.before.before.before.before.before.before.before.before.before.before.before.loop in c.before.before.before.before.before.before.before.before.case-tree.auto.1.1.0 ∙ ap length q.invariant.marks_same
+    let start = c.before.before.before.before.before.before.before.before.before.before.before.before.before.before.before.before.before.before.before.before.before.before.before.before.before.before.before in
+    let s = start.args in let p = start.requires in let q = c.before.before.before.before.before.before.before.before.before.before.before.before.before.before.before.before.before.before.before.before.before.before.loop-r in c.before.before.before.before.before.before.before.case_tree.auto.marks ∙ ap length q.invariant.marks_same
 
-case_trees_same_length_3 : (t : ℕ) → case-trees-lts.Need-same-length-3 (case_trees_calls t) (case_trees_at t) case-trees.Post invariant-loop decreases-loop
+case_trees_same_length_3 : (t : ℕ) → case-trees-lts.Need-shape_of-out-in_default (case_trees_calls t) (case_trees_at t) case-trees.Post invariant-loop-r decreases-loop-r
 case_trees_same_length_3 t c =
-    let start = c.before.before.before.before.before.before.before.before.before.before.before.before.before.before.before.before.before.before.before.before.before.before.before.before.before.before.before.before.before.before in
-    let s = start.args in let p = start.requires in let q = c.before.before.before.before.before.before.before.before.before.before.before.before.before.before.before.before.before.before.before.before.before.before.before.before.before.loop in c.before.before.before.before.before.before.before.before.case-tree.auto.1.1.1.0 ∙ c.before.before.before.before.before.before.before.before.before.before.before.before.before.before.put2.auto.0 ∙ c.before.before.before.before.before.before.before.before.before.before.before.before.before.before.before.before.before.before.put.auto.0 ∙ q.invariant.size
+    let start = c.before.before.before.before.before.before.before.before.before.before.before.before.before.before.before.before.before.before.before.before.before.before.before.before.before.before.before in
+    let s = start.args in let p = start.requires in let q = c.before.before.before.before.before.before.before.before.before.before.before.before.before.before.before.before.before.before.before.before.before.before.loop-r in c.before.before.before.before.before.before.before.case_tree.auto.out ∙ c.before.before.before.before.before.before.before.before.before.before.before.before.before.put-in-loop-r.auto.out ∙ c.before.before.before.before.before.before.before.before.before.before.before.before.before.before.before.before.before.put.auto.out ∙ q.invariant.size
 
-case_trees_returns : (t : ℕ) → case-trees-lts.Need-returns (case_trees_calls t) (case_trees_at t) case-trees.Post invariant-loop decreases-loop
+case_trees_returns : (t : ℕ) → case-trees-lts.Need-returns-in_default (case_trees_calls t) (case_trees_at t) case-trees.Post invariant-loop-r decreases-loop-r
 case_trees_returns t c =
-    let s = c.before.before.before.before.before.before.before.before.before.before.before.before.before.before.before.before.before.before.before.before.before.before.before.before.before.before.before.before.before.before.args in let p = c.before.before.before.before.before.before.before.before.before.before.before.before.before.before.before.before.before.before.before.before.before.before.before.before.before.before.before.before.before.before.requires in let q = c.before.before.before.before.before.before.before.before.before.before.before.before.before.before.before.before.before.before.before.before.before.before.before.before.before.loop in (so_far_over s.fixed.now s.nums.now s.marks.now s.limit s.count s.slot s.at s.mark s.n s.out.now p.1 q.nums q.marks q.out q.to q.a q.r q.invariant c.before.before.before.before.before.before.before.before.before.before.before.before.before.before.before.before.before.before.before.before.before.before.before.before.loop-test.true _ c.before.before.before.before.before.before.before.before.before.before.before.before.before.before.before.before.before.before.before.before.before.new-head.ensures c.before.before.before.before.before.before.before.before.before.before.before.before.before.before.before.before.before.before.before.before.if1.false _ _ _ _ _ c.before.before.before.before.before.before.before.before.case-tree.ensures c.enum_told.given.1, tt)
+    let s = c.before.before.before.before.before.before.before.before.before.before.before.before.before.before.before.before.before.before.before.before.before.before.before.before.before.before.before.args in let p = c.before.before.before.before.before.before.before.before.before.before.before.before.before.before.before.before.before.before.before.before.before.before.before.before.before.before.before.requires in let q = c.before.before.before.before.before.before.before.before.before.before.before.before.before.before.before.before.before.before.before.before.before.before.loop-r in (so_far_over s.fixed.now s.nums.now s.marks.now s.limit s.count s.slot s.at s.mark s.n s.out.now p.1 q.nums q.marks q.out q.to q.a q.r q.invariant c.before.before.before.before.before.before.before.before.before.before.before.before.before.before.before.before.before.before.before.before.before.loop-r-test.true _ c.before.before.before.before.before.before.before.before.before.before.before.before.before.before.before.before.before.before.before.before.new_head-w.ensures c.before.before.before.before.before.before.before.before.before.before.before.before.before.before.before.before.before.before.before.if-w-eq-NO_HEAD.false _ _ _ _ _ c.before.before.before.before.before.before.before.case_tree.ensures c.in_default.is, tt)
 
-case_trees_add_to : (t : ℕ) → case-trees-lts.Need-overflow-add-to (case_trees_calls t) (case_trees_at t) case-trees.Post invariant-loop decreases-loop
+case_trees_add_to : (t : ℕ) → case-trees-lts.Need-overflow_add-to-in-loop-r (case_trees_calls t) (case_trees_at t) case-trees.Post invariant-loop-r decreases-loop-r
 case_trees_add_to t c =
-    let start = c.before.before.before.before.before.before.before.before.before.before.before.before.before.before.before.before.before.before.before.before.before.before.before.before.before.before.before.before.before.before.before in
-    let s = start.args in let p = start.requires in let q = c.before.before.before.before.before.before.before.before.before.before.before.before.before.before.before.before.before.before.before.before.before.before.before.before.before.before.loop in omega (arith, to_small s.fixed.now s.nums.now s.marks.now s.limit s.count s.slot s.at s.mark s.n s.out.now p.1 q.nums q.marks q.out q.to q.a q.r q.invariant)
+    let start = c.before.before.before.before.before.before.before.before.before.before.before.before.before.before.before.before.before.before.before.before.before.before.before.before.before.before.before in
+    let s = start.args in let p = start.requires in let q = c.before.before.before.before.before.before.before.before.before.before.before.before.before.before.before.before.before.before.before.before.before.before.loop-r in omega (arith, to_small s.fixed.now s.nums.now s.marks.now s.limit s.count s.slot s.at s.mark s.n s.out.now p.1 q.nums q.marks q.out q.to q.a q.r q.invariant)
 
-case_trees_loop_again_2 : (t : ℕ) → case-trees-lts.Need-loop-preserved-2 (case_trees_calls t) (case_trees_at t) case-trees.Post invariant-loop decreases-loop
+case_trees_loop_again_2 : (t : ℕ) → case-trees-lts.Need-loop-r-preserved (case_trees_calls t) (case_trees_at t) case-trees.Post invariant-loop-r decreases-loop-r
 case_trees_loop_again_2 t c =
-    let s = c.before.before.before.before.before.before.before.before.before.before.before.before.before.before.before.before.before.before.before.before.before.before.before.before.before.before.before.before.before.before.before.args in let p = c.before.before.before.before.before.before.before.before.before.before.before.before.before.before.before.before.before.before.before.before.before.before.before.before.before.before.before.before.before.before.before.requires in let q = c.before.before.before.before.before.before.before.before.before.before.before.before.before.before.before.before.before.before.before.before.before.before.before.before.before.before.loop in so_far_next s.fixed.now s.nums.now s.marks.now s.limit s.count s.slot s.at s.mark s.n s.out.now p.1 q.nums q.marks q.out q.to q.a q.r q.invariant c.before.before.before.before.before.before.before.before.before.before.before.before.before.before.before.before.before.before.before.before.before.before.before.before.before.loop-test.true _ c.before.before.before.before.before.before.before.before.before.before.before.before.before.before.before.before.before.before.before.before.before.before.new-head.ensures c.before.before.before.before.before.before.before.before.before.before.before.before.before.before.before.before.before.before.before.before.before.if1.false _ _ _ _ _ c.before.before.before.before.before.before.before.before.before.case-tree.ensures _ c.before.next.given.1 _ c.before.before.before.before.before.before.before.before.before.before.before.before.before.before.before.before.before.before.before.put.ensures c.before.before.before.before.before.before.before.before.before.before.before.before.before.before.before.put2.ensures (c.before.before.before.before.before.before.before.before.before.case-tree.auto.1.1.1.0 ∙ c.before.before.before.before.before.before.before.before.before.before.before.before.before.before.before.put2.auto.0 ∙ c.before.before.before.before.before.before.before.before.before.before.before.before.before.before.before.before.before.before.before.put.auto.0)
+    let s = c.before.before.before.before.before.before.before.before.before.before.before.before.before.before.before.before.before.before.before.before.before.before.before.before.before.before.before.args in let p = c.before.before.before.before.before.before.before.before.before.before.before.before.before.before.before.before.before.before.before.before.before.before.before.before.before.before.before.requires in let q = c.before.before.before.before.before.before.before.before.before.before.before.before.before.before.before.before.before.before.before.before.before.before.loop-r in so_far_next s.fixed.now s.nums.now s.marks.now s.limit s.count s.slot s.at s.mark s.n s.out.now p.1 q.nums q.marks q.out q.to q.a q.r q.invariant c.before.before.before.before.before.before.before.before.before.before.before.before.before.before.before.before.before.before.before.before.before.loop-r-test.true _ c.before.before.before.before.before.before.before.before.before.before.before.before.before.before.before.before.before.before.before.before.new_head-w.ensures c.before.before.before.before.before.before.before.before.before.before.before.before.before.before.before.before.before.before.before.if-w-eq-NO_HEAD.false _ _ _ _ _ c.before.before.before.before.before.before.before.case_tree.ensures _ c.in-Done.is _ c.before.before.before.before.before.before.before.before.before.before.before.before.before.before.before.before.before.put.ensures c.before.before.before.before.before.before.before.before.before.before.before.before.before.put-in-loop-r.ensures (c.before.before.before.before.before.before.before.case_tree.auto.out ∙ c.before.before.before.before.before.before.before.before.before.before.before.before.before.put-in-loop-r.auto.out ∙ c.before.before.before.before.before.before.before.before.before.before.before.before.before.before.before.before.before.put.auto.out)
 
-case_trees_cast_put_2 : (t : ℕ) → case-trees-lts.Need-overflow-cast-put-2 (case_trees_calls t) (case_trees_at t) case-trees.Post invariant-loop decreases-loop
+case_trees_cast_put_2 : (t : ℕ) → case-trees-lts.Need-overflow_cast-a-2 (case_trees_calls t) (case_trees_at t) case-trees.Post invariant-loop-r decreases-loop-r
 case_trees_cast_put_2 t c =
     let start = c.before.before.before.before.before.before.before in
-    let s = start.args in let p = start.requires in let q = c.before.before.loop in omega (arith, q.invariant.high, p.1.0.within.0)
+    let s = start.args in let p = start.requires in let q = c.before.before.loop-r in omega (arith, q.invariant.high, p.1.0.within.0)
 
-case_trees_same_length_4 : (t : ℕ) → case-trees-lts.Need-same-length-4 (case_trees_calls t) (case_trees_at t) case-trees.Post invariant-loop decreases-loop
+case_trees_same_length_4 : (t : ℕ) → case-trees-lts.Need-shape_of-nums (case_trees_calls t) (case_trees_at t) case-trees.Post invariant-loop-r decreases-loop-r
 case_trees_same_length_4 t c =
     let start = c.before.before.before.before.before.before.before.before.before.before in
-    let s = start.args in let p = start.requires in let q = c.before.before.before.before.before.loop in ap length q.invariant.nums_same
+    let s = start.args in let p = start.requires in let q = c.before.before.before.before.before.loop-r in ap length q.invariant.nums_same
 
-case_trees_same_length_5 : (t : ℕ) → case-trees-lts.Need-same-length-5 (case_trees_calls t) (case_trees_at t) case-trees.Post invariant-loop decreases-loop
+case_trees_same_length_5 : (t : ℕ) → case-trees-lts.Need-shape_of-marks (case_trees_calls t) (case_trees_at t) case-trees.Post invariant-loop-r decreases-loop-r
 case_trees_same_length_5 t c =
     let start = c.before.before.before.before.before.before.before.before.before.before in
-    let s = start.args in let p = start.requires in let q = c.before.before.before.before.before.loop in ap length q.invariant.marks_same
+    let s = start.args in let p = start.requires in let q = c.before.before.before.before.before.loop-r in ap length q.invariant.marks_same
 
-case_trees_same_length_6 : (t : ℕ) → case-trees-lts.Need-same-length-6 (case_trees_calls t) (case_trees_at t) case-trees.Post invariant-loop decreases-loop
+case_trees_same_length_6 : (t : ℕ) → case-trees-lts.Need-shape_of-out (case_trees_calls t) (case_trees_at t) case-trees.Post invariant-loop-r decreases-loop-r
 case_trees_same_length_6 t c =
     let start = c.before.before.before.before.before.before.before.before.before.before in
-    let s = start.args in let p = start.requires in let q = c.before.before.before.before.before.loop in c.before.before.put3.auto.0 ∙ q.invariant.size
+    let s = start.args in let p = start.requires in let q = c.before.before.before.before.before.loop-r in c.before.before.put-2.auto.out ∙ q.invariant.size
 
-case_trees_returns_2 : (t : ℕ) → case-trees-lts.Need-returns-2 (case_trees_calls t) (case_trees_at t) case-trees.Post invariant-loop decreases-loop
+case_trees_returns_2 : (t : ℕ) → case-trees-lts.Need-returns (case_trees_calls t) (case_trees_at t) case-trees.Post invariant-loop-r decreases-loop-r
 case_trees_returns_2 t c =
-    let s = c.before.before.before.before.before.before.before.before.before.before.args in let p = c.before.before.before.before.before.before.before.before.before.before.requires in let q = c.before.before.before.before.before.loop in so_far_end s.fixed.now s.nums.now s.marks.now s.limit s.count s.slot s.at s.mark s.n s.out.now p.1 q.nums q.marks q.out q.to q.a q.r q.invariant c.before.before.before.before.loop-test.false _ c.before.before.put3.ensures
+    let s = c.before.before.before.before.before.before.before.before.before.before.args in let p = c.before.before.before.before.before.before.before.before.before.before.requires in let q = c.before.before.before.before.before.loop-r in so_far_end s.fixed.now s.nums.now s.marks.now s.limit s.count s.slot s.at s.mark s.n s.out.now p.1 q.nums q.marks q.out q.to q.a q.r q.invariant c.before.before.before.before.loop-r-test.false _ c.before.before.put-2.ensures
 
-switch_node_cast_mark : (t : ℕ) → switch-node-lts.Need-overflow-cast-mark (switch_node_calls t) (switch_node_at t) switch-node.Post
+switch_node_cast_mark : (t : ℕ) → switch-node-lts.Need-overflow_cast-mark (switch_node_calls t) (switch_node_at t) switch-node.Post
 switch_node_cast_mark t c =
     let start = c.before.before.before.before in
     let s = start.args in let p = start.requires in omega (arith, p.1.room, p.1.ready.within.0)
 
-switch_node_add_mark : (t : ℕ) → switch-node-lts.Need-overflow-add-mark (switch_node_calls t) (switch_node_at t) switch-node.Post
+switch_node_add_mark : (t : ℕ) → switch-node-lts.Need-overflow_add-mark (switch_node_calls t) (switch_node_at t) switch-node.Post
 switch_node_add_mark t c =
     let start = c.before.before.before.before in
     let s = start.args in let p = start.requires in omega (arith, p.1.room, p.1.ready.within.0)
 
-switch_node_count_heads_requires : (t : ℕ) → switch-node-lts.Need-count-heads-requires (switch_node_calls t) (switch_node_at t) switch-node.Post
+switch_node_count_heads_requires : (t : ℕ) → switch-node-lts.Need-count_heads-cases-requires (switch_node_calls t) (switch_node_at t) switch-node.Post
 switch_node_count_heads_requires t c κs =
-    let start = c.before.before.before.before.before.before in
+    let start = c.before.before.before.before in
     let s = start.args in let p = start.requires in (p.1.ready.sizes.0, p.1.ready.sizes.1, p.1.ready.sizes.2, place_small s.fixed.now s.nums.now s.marks.now s.limit s.count s.at s.n p.1)
 
-switch_node_add_put : (t : ℕ) → switch-node-lts.Need-overflow-add-put (switch_node_calls t) (switch_node_at t) switch-node.Post
+switch_node_add_put : (t : ℕ) → switch-node-lts.Need-overflow_add-at (switch_node_calls t) (switch_node_at t) switch-node.Post
 switch_node_add_put t c =
-    let start = c.before.before.before.before.before.before.before.before.before.before.before.before in
+    let start = c.before.before.before.before.before.before.before.before.before.before in
     let s = start.args in let p = start.requires in omega (arith, p.1.room, p.1.ready.within.0)
 
-switch_node_add_put_2 : (t : ℕ) → switch-node-lts.Need-overflow-add-put-2 (switch_node_calls t) (switch_node_at t) switch-node.Post
+switch_node_add_put_2 : (t : ℕ) → switch-node-lts.Need-overflow_add-at-2 (switch_node_calls t) (switch_node_at t) switch-node.Post
 switch_node_add_put_2 t c =
-    let start = c.before.before.before.before.before.before.before.before.before.before.before.before.before.before.before.before in
+    let start = c.before.before.before.before.before.before.before.before.before.before.before.before.before.before in
     let s = start.args in let p = start.requires in omega (arith, p.1.room, p.1.ready.within.0)
 
-switch_node_add_first : (t : ℕ) → switch-node-lts.Need-overflow-add-first (switch_node_calls t) (switch_node_at t) switch-node.Post
+switch_node_add_first : (t : ℕ) → switch-node-lts.Need-overflow_add-first (switch_node_calls t) (switch_node_at t) switch-node.Post
 switch_node_add_first t c =
-    let start = c.before.before.before.before.before.before.before.before.before.before.before.before.before.before.before.before.before.before.before in
+    let start = c.before.before.before.before.before.before.before.before.before.before.before.before.before.before.before.before.before in
     let s = start.args in let p = start.requires in omega (arith, p.1.room, p.1.ready.within.0)
 
-switch_node_mul_first : (t : ℕ) → switch-node-lts.Need-overflow-mul-first (switch_node_calls t) (switch_node_at t) switch-node.Post
+switch_node_mul_first : (t : ℕ) → switch-node-lts.Need-overflow_mul-first (switch_node_calls t) (switch_node_at t) switch-node.Post
 switch_node_mul_first t c =
-    let start = c.before.before.before.before.before.before.before.before.before.before.before.before.before.before.before.before.before.before.before in
-    let s = start.args in let p = start.requires in omega (arith, p.1.room, p.1.ready.within.0, c.before.before.before.before.before.before.before.before.before.before.before.before.count-heads.ensures, heads_most s.fixed.now s.nums.now s.marks.now s.n)
+    let start = c.before.before.before.before.before.before.before.before.before.before.before.before.before.before.before.before.before in
+    let s = start.args in let p = start.requires in omega (arith, p.1.room, p.1.ready.within.0, c.before.before.before.before.before.before.before.before.before.before.before.before.count_heads-cases.ensures, heads_most s.fixed.now s.nums.now s.marks.now s.n)
 
-switch_node_add_first_2 : (t : ℕ) → switch-node-lts.Need-overflow-add-first-2 (switch_node_calls t) (switch_node_at t) switch-node.Post
+switch_node_add_first_2 : (t : ℕ) → switch-node-lts.Need-overflow_add-first-2 (switch_node_calls t) (switch_node_at t) switch-node.Post
 switch_node_add_first_2 t c =
-    let start = c.before.before.before.before.before.before.before.before.before.before.before.before.before.before.before.before.before.before.before in
-    let s = start.args in let p = start.requires in omega (arith, p.1.room, p.1.ready.within.0, c.before.before.before.before.before.before.before.before.before.before.before.before.count-heads.ensures, heads_most s.fixed.now s.nums.now s.marks.now s.n)
+    let start = c.before.before.before.before.before.before.before.before.before.before.before.before.before.before.before.before.before in
+    let s = start.args in let p = start.requires in omega (arith, p.1.room, p.1.ready.within.0, c.before.before.before.before.before.before.before.before.before.before.before.before.count_heads-cases.ensures, heads_most s.fixed.now s.nums.now s.marks.now s.n)
 
-switch_node_add_case_trees : (t : ℕ) → switch-node-lts.Need-overflow-add-case-trees (switch_node_calls t) (switch_node_at t) switch-node.Post
+switch_node_add_case_trees : (t : ℕ) → switch-node-lts.Need-overflow_add-at-3 (switch_node_calls t) (switch_node_at t) switch-node.Post
 switch_node_add_case_trees t c =
-    let start = c.before.before.before.before.before.before.before.before.before.before.before.before.before.before.before.before.before.before.before.before.before.before in
+    let start = c.before.before.before.before.before.before.before.before.before.before.before.before.before.before.before.before.before.before.before.before in
     let s = start.args in let p = start.requires in omega (arith, p.1.room, p.1.ready.within.0)
 
-switch_node_case_trees_requires : (t : ℕ) → switch-node-lts.Need-case-trees-requires (switch_node_calls t) (switch_node_at t) switch-node.Post
+switch_node_case_trees_requires : (t : ℕ) → switch-node-lts.Need-case_trees-requires (switch_node_calls t) (switch_node_at t) switch-node.Post
 switch_node_case_trees_requires t c κs =
-    let start = c.before.before.before.before.before.before.before.before.before.before.before.before.before.before.before.before.before.before.before.before.before.before in
-    let s = start.args in let p = start.requires in (omega (arith, p.0), cases_needs s.fixed.now s.nums.now s.marks.now s.limit s.count s.at s.n p.1 (s.at + 17) refl s.out.now _ c.before.before.before.before.before.before.before.before.before.before.before.before.before.before.before.count-heads.ensures)
+    let start = c.before.before.before.before.before.before.before.before.before.before.before.before.before.before.before.before.before.before.before.before in
+    let s = start.args in let p = start.requires in (omega (arith, p.0), cases_needs s.fixed.now s.nums.now s.marks.now s.limit s.count s.at s.n p.1 (s.at + 17) refl s.out.now _ c.before.before.before.before.before.before.before.before.before.before.before.before.before.before.before.count_heads-cases.ensures)
 
-switch_node_same_length : (t : ℕ) → switch-node-lts.Need-same-length (switch_node_calls t) (switch_node_at t) switch-node.Post
+switch_node_same_length : (t : ℕ) → switch-node-lts.Need-shape_of-nums-in_default (switch_node_calls t) (switch_node_at t) switch-node.Post
 switch_node_same_length t c =
-    c.before.before.before.before.before.before.before.before.case-trees.auto.1.0
+    c.before.before.before.before.before.before.before.case_trees.auto.nums
 
-switch_node_same_length_2 : (t : ℕ) → switch-node-lts.Need-same-length-2 (switch_node_calls t) (switch_node_at t) switch-node.Post
+switch_node_same_length_2 : (t : ℕ) → switch-node-lts.Need-shape_of-marks-in_default (switch_node_calls t) (switch_node_at t) switch-node.Post
 switch_node_same_length_2 t c =
-    c.before.before.before.before.before.before.before.before.case-trees.auto.1.1.0
+    c.before.before.before.before.before.before.before.case_trees.auto.marks
 
-switch_node_same_length_3 : (t : ℕ) → switch-node-lts.Need-same-length-3 (switch_node_calls t) (switch_node_at t) switch-node.Post
+switch_node_same_length_3 : (t : ℕ) → switch-node-lts.Need-shape_of-out-in_default (switch_node_calls t) (switch_node_at t) switch-node.Post
 switch_node_same_length_3 t c =
-    c.before.before.before.before.before.before.before.before.case-trees.auto.1.1.1.0 ∙ c.before.before.before.before.before.before.before.before.before.before.before.before.before.before.put3.auto.0 ∙ c.before.before.before.before.before.before.before.before.before.before.before.before.before.before.before.before.before.before.put2.auto.0 ∙ c.before.before.before.before.before.before.before.before.before.before.before.before.before.before.before.before.before.before.before.before.before.before.put.auto.0
+    c.before.before.before.before.before.before.before.case_trees.auto.out ∙ c.before.before.before.before.before.before.before.before.before.before.before.before.before.put-3.auto.out ∙ c.before.before.before.before.before.before.before.before.before.before.before.before.before.before.before.before.before.put-2.auto.out ∙ c.before.before.before.before.before.before.before.before.before.before.before.before.before.before.before.before.before.before.before.before.before.put.auto.out
 
-switch_node_returns : (t : ℕ) → switch-node-lts.Need-returns (switch_node_calls t) (switch_node_at t) switch-node.Post
+switch_node_returns : (t : ℕ) → switch-node-lts.Need-returns-in_default (switch_node_calls t) (switch_node_at t) switch-node.Post
 switch_node_returns t c =
-    let start = c.before.before.before.before.before.before.before.before.before.before.before.before.before.before.before.before.before.before.before.before.before.before.before.before.before.before.before.before.before.before.before in
-    let s = start.args in let p = start.requires in (switch_cases_over s.fixed.now s.nums.now s.marks.now s.limit s.count s.at s.n p.1 (s.at + 17) refl s.out.now _ c.before.before.before.before.before.before.before.before.before.before.before.before.before.before.before.before.before.before.before.before.before.before.before.before.count-heads.ensures _ _ _ _ _ _ c.before.before.before.before.before.before.before.before.before.before.before.before.before.before.before.before.before.before.before.before.before.before.put.ensures c.before.before.before.before.before.before.before.before.before.before.before.before.before.before.before.before.before.before.put2.ensures c.before.before.before.before.before.before.before.before.before.before.before.before.before.before.put3.ensures _ c.before.before.before.before.before.before.before.before.case-trees.ensures c.enum_told.given.1, tt)
+    let start = c.before.before.before.before.before.before.before.before.before.before.before.before.before.before.before.before.before.before.before.before.before.before.before.before.before.before.before.before in
+    let s = start.args in let p = start.requires in (switch_cases_over s.fixed.now s.nums.now s.marks.now s.limit s.count s.at s.n p.1 (s.at + 17) refl s.out.now _ c.before.before.before.before.before.before.before.before.before.before.before.before.before.before.before.before.before.before.before.before.before.before.before.count_heads-cases.ensures _ _ _ _ _ _ c.before.before.before.before.before.before.before.before.before.before.before.before.before.before.before.before.before.before.before.before.before.put.ensures c.before.before.before.before.before.before.before.before.before.before.before.before.before.before.before.before.before.put-2.ensures c.before.before.before.before.before.before.before.before.before.before.before.before.before.put-3.ensures _ c.before.before.before.before.before.before.before.case_trees.ensures c.in_default.is, tt)
 
-switch_node_drop_others_requires : (t : ℕ) → switch-node-lts.Need-drop-others-requires (switch_node_calls t) (switch_node_at t) switch-node.Post
+switch_node_drop_others_requires : (t : ℕ) → switch-node-lts.Need-drop_others-requires (switch_node_calls t) (switch_node_at t) switch-node.Post
 switch_node_drop_others_requires t c κs =
-    let start = c.before.before.before.before.before.before.before.before.before.before.before.before.before.before.before.before.before.before.before.before.before.before.before.before.before.before.before.before.before.before.before.before.before.before in
-    let far = c.before.before.before.before.before.before.before.before.before.before.before.before.before.before.before.before.before.before.before.before.before.before.before.before.before.before.before in
-    let far2 = c.before.before.before.before.before.before.before.before.before.before.before.before.before.before.before.before.before.before.before.before.before.before.before.before.before in
-    let far3 = c.before.before.before.before.before.before.before.before.before.before.before.before.before.before.before.before.before.before.before.before.before in
-    let far4 = c.before.before.before.before.before.before.before.before.before.before.before.before.before.before.before.before.before in
-    let far5 = c.before.before.before.before.before.before.before.before.before.before.before in
-    let far6 = c.before.before.before in
-    let s = start.args in let p = start.requires in (p.1.ready.sizes.0, nums_size s.fixed.now s.nums.now s.marks.now s.limit s.count s.at s.n p.1 (s.at + 17) refl s.out.now _ far.count-heads.ensures _ _ _ _ _ _ far2.put.ensures far3.put2.ensures far4.put3.ensures _ far5.case-trees.ensures _ far6.next.given.1 ∙ p.1.ready.sizes.1, cases_size s.fixed.now s.nums.now s.marks.now s.limit s.count s.at s.n p.1 (s.at + 17) refl s.out.now _ far.count-heads.ensures _ _ _ _ _ _ far2.put.ensures far3.put2.ensures far4.put3.ensures _ far5.case-trees.ensures _ far6.next.given.1 ∙ p.1.ready.sizes.2, place_small s.fixed.now s.nums.now s.marks.now s.limit s.count s.at s.n p.1)
+    let start = c.before.before.before.before.before.before.before.before.before.before.before.before.before.before.before.before.before.before.before.before.before.before.before.before.before.before.before.before.before in
+    let far = c.before.before.before.before.before.before.before.before.before.before.before.before.before.before.before.before.before.before.before.before.before.before.before.before in
+    let far2 = c.before.before.before.before.before.before.before.before.before.before.before.before.before.before.before.before.before.before.before.before.before.before in
+    let far3 = c.before.before.before.before.before.before.before.before.before.before.before.before.before.before.before.before.before.before in
+    let far4 = c.before.before.before.before.before.before.before.before.before.before.before.before.before.before in
+    let far5 = c.before.before.before.before.before.before.before.before in
+    let far6 = c.before in
+    let s = start.args in let p = start.requires in (p.1.ready.sizes.0, nums_size s.fixed.now s.nums.now s.marks.now s.limit s.count s.at s.n p.1 (s.at + 17) refl s.out.now _ far.count_heads-cases.ensures _ _ _ _ _ _ far2.put.ensures far3.put-2.ensures far4.put-3.ensures _ far5.case_trees.ensures _ far6.in-Done.is ∙ p.1.ready.sizes.1, cases_size s.fixed.now s.nums.now s.marks.now s.limit s.count s.at s.n p.1 (s.at + 17) refl s.out.now _ far.count_heads-cases.ensures _ _ _ _ _ _ far2.put.ensures far3.put-2.ensures far4.put-3.ensures _ far5.case_trees.ensures _ far6.in-Done.is ∙ p.1.ready.sizes.2, place_small s.fixed.now s.nums.now s.marks.now s.limit s.count s.at s.n p.1)
 
-switch_node_tree_of_requires : (t : ℕ) → switch-node-lts.Need-tree-of-requires (switch_node_calls t) (switch_node_at t) switch-node.Post
+switch_node_tree_of_requires : (t : ℕ) → switch-node-lts.Need-tree_of-requires (switch_node_calls t) (switch_node_at t) switch-node.Post
 switch_node_tree_of_requires t c κs =
-    let start = c.before.before.before.before.before.before.before.before.before.before.before.before.before.before.before.before.before.before.before.before.before.before.before.before.before.before.before.before.before.before.before.before.before.before.before.before.before.before.before.before in
+    let start = c.before.before.before.before.before.before.before.before.before.before.before.before.before.before.before.before.before.before.before.before.before.before.before.before.before.before.before.before.before.before.before.before.before.before.before in
     let far = c.before.before.before.before.before in
-    let s = start.args in let p = start.requires in let x = default_needs s.fixed.now s.nums.now s.marks.now s.limit s.count s.at s.n p.1 (s.at + 17) refl s.out.now _ c.before.before.before.before.before.before.before.before.before.before.before.before.before.before.before.before.before.before.before.before.before.before.before.before.before.before.before.before.before.before.before.before.before.count-heads.ensures _ _ _ _ _ _ c.before.before.before.before.before.before.before.before.before.before.before.before.before.before.before.before.before.before.before.before.before.before.before.before.before.before.before.before.before.before.before.put.ensures c.before.before.before.before.before.before.before.before.before.before.before.before.before.before.before.before.before.before.before.before.before.before.before.before.before.before.before.put2.ensures c.before.before.before.before.before.before.before.before.before.before.before.before.before.before.before.before.before.before.before.before.before.before.before.put3.ensures _ c.before.before.before.before.before.before.before.before.before.before.before.before.before.before.before.before.before.case-trees.ensures _ c.before.before.before.before.before.before.before.before.before.next.given.1 _ far.drop-others.auto.1.1.0 far.drop-others.ensures in (omega (arith, p.0, x.0), x.1)
+    let s = start.args in let p = start.requires in let x = default_needs s.fixed.now s.nums.now s.marks.now s.limit s.count s.at s.n p.1 (s.at + 17) refl s.out.now _ c.before.before.before.before.before.before.before.before.before.before.before.before.before.before.before.before.before.before.before.before.before.before.before.before.before.before.before.before.before.before.count_heads-cases.ensures _ _ _ _ _ _ c.before.before.before.before.before.before.before.before.before.before.before.before.before.before.before.before.before.before.before.before.before.before.before.before.before.before.before.before.put.ensures c.before.before.before.before.before.before.before.before.before.before.before.before.before.before.before.before.before.before.before.before.before.before.before.before.put-2.ensures c.before.before.before.before.before.before.before.before.before.before.before.before.before.before.before.before.before.before.before.before.put-3.ensures _ c.before.before.before.before.before.before.before.before.before.before.before.before.before.before.case_trees.ensures _ c.before.before.before.before.before.before.before.in-Done.is _ far.drop_others.auto.marks far.drop_others.ensures in (omega (arith, p.0, x.0), x.1)
 
-switch_node_same_length_4 : (t : ℕ) → switch-node-lts.Need-same-length-4 (switch_node_calls t) (switch_node_at t) switch-node.Post
+switch_node_same_length_4 : (t : ℕ) → switch-node-lts.Need-shape_of-nums-in_default-tree_of (switch_node_calls t) (switch_node_at t) switch-node.Post
 switch_node_same_length_4 t c =
-    c.before.before.before.before.before.before.before.before.tree_of.auto.1.0 ∙ c.before.before.before.before.before.before.before.before.before.before.before.before.before.before.before.before.before.before.before.before.before.before.before.before.before.before.case-trees.auto.1.0
+    c.before.before.before.before.before.before.before.tree_of.auto.nums ∙ c.before.before.before.before.before.before.before.before.before.before.before.before.before.before.before.before.before.before.before.before.before.before.case_trees.auto.nums
 
-switch_node_same_length_5 : (t : ℕ) → switch-node-lts.Need-same-length-5 (switch_node_calls t) (switch_node_at t) switch-node.Post
+switch_node_same_length_5 : (t : ℕ) → switch-node-lts.Need-shape_of-marks-in_default-tree_of (switch_node_calls t) (switch_node_at t) switch-node.Post
 switch_node_same_length_5 t c =
-    c.before.before.before.before.before.before.before.before.tree_of.auto.1.1.0 ∙ c.before.before.before.before.before.before.before.before.before.before.before.before.before.before.drop-others.auto.1.1.0 ∙ c.before.before.before.before.before.before.before.before.before.before.before.before.before.before.before.before.before.before.before.before.before.before.before.before.before.before.case-trees.auto.1.1.0
+    c.before.before.before.before.before.before.before.tree_of.auto.marks ∙ c.before.before.before.before.before.before.before.before.before.before.before.before.before.drop_others.auto.marks ∙ c.before.before.before.before.before.before.before.before.before.before.before.before.before.before.before.before.before.before.before.before.before.before.case_trees.auto.marks
 
-switch_node_same_length_6 : (t : ℕ) → switch-node-lts.Need-same-length-6 (switch_node_calls t) (switch_node_at t) switch-node.Post
+switch_node_same_length_6 : (t : ℕ) → switch-node-lts.Need-shape_of-out-in_default-tree_of (switch_node_calls t) (switch_node_at t) switch-node.Post
 switch_node_same_length_6 t c =
-    c.before.before.before.before.before.before.before.before.tree_of.auto.1.1.1.0 ∙ c.before.before.before.before.before.before.before.before.before.before.before.before.before.before.before.before.before.before.before.before.before.before.before.before.before.before.case-trees.auto.1.1.1.0 ∙ c.before.before.before.before.before.before.before.before.before.before.before.before.before.before.before.before.before.before.before.before.before.before.before.before.before.before.before.before.before.before.before.before.put3.auto.0 ∙ c.before.before.before.before.before.before.before.before.before.before.before.before.before.before.before.before.before.before.before.before.before.before.before.before.before.before.before.before.before.before.before.before.before.before.before.before.put2.auto.0 ∙ c.before.before.before.before.before.before.before.before.before.before.before.before.before.before.before.before.before.before.before.before.before.before.before.before.before.before.before.before.before.before.before.before.before.before.before.before.before.before.before.before.put.auto.0
+    c.before.before.before.before.before.before.before.tree_of.auto.out ∙ c.before.before.before.before.before.before.before.before.before.before.before.before.before.before.before.before.before.before.before.before.before.before.case_trees.auto.out ∙ c.before.before.before.before.before.before.before.before.before.before.before.before.before.before.before.before.before.before.before.before.before.before.before.before.before.before.before.before.put-3.auto.out ∙ c.before.before.before.before.before.before.before.before.before.before.before.before.before.before.before.before.before.before.before.before.before.before.before.before.before.before.before.before.before.before.before.before.put-2.auto.out ∙ c.before.before.before.before.before.before.before.before.before.before.before.before.before.before.before.before.before.before.before.before.before.before.before.before.before.before.before.before.before.before.before.before.before.before.before.before.put.auto.out
 
-switch_node_returns_2 : (t : ℕ) → switch-node-lts.Need-returns-2 (switch_node_calls t) (switch_node_at t) switch-node.Post
+switch_node_returns_2 : (t : ℕ) → switch-node-lts.Need-returns-in_default-tree_of (switch_node_calls t) (switch_node_at t) switch-node.Post
 switch_node_returns_2 t c =
-    let start = c.before.before.before.before.before.before.before.before.before.before.before.before.before.before.before.before.before.before.before.before.before.before.before.before.before.before.before.before.before.before.before.before.before.before.before.before.before.before.before.before.before.before.before.before.before.before.before.before.before in
-    let far = c.before.before.before.before.before.before.before.before.before.before.before.before.before.before in
-    let s = start.args in let p = start.requires in (switch_default_over s.fixed.now s.nums.now s.marks.now s.limit s.count s.at s.n p.1 (s.at + 17) refl s.out.now _ c.before.before.before.before.before.before.before.before.before.before.before.before.before.before.before.before.before.before.before.before.before.before.before.before.before.before.before.before.before.before.before.before.before.before.before.before.before.before.before.before.before.before.count-heads.ensures _ _ _ _ _ _ c.before.before.before.before.before.before.before.before.before.before.before.before.before.before.before.before.before.before.before.before.before.before.before.before.before.before.before.before.before.before.before.before.before.before.before.before.before.before.before.before.put.ensures c.before.before.before.before.before.before.before.before.before.before.before.before.before.before.before.before.before.before.before.before.before.before.before.before.before.before.before.before.before.before.before.before.before.before.before.before.put2.ensures c.before.before.before.before.before.before.before.before.before.before.before.before.before.before.before.before.before.before.before.before.before.before.before.before.before.before.before.before.before.before.before.before.put3.ensures _ c.before.before.before.before.before.before.before.before.before.before.before.before.before.before.before.before.before.before.before.before.before.before.before.before.before.before.case-trees.ensures _ c.before.before.before.before.before.before.before.before.before.before.before.before.before.before.before.before.before.before.next.given.1 _ far.drop-others.auto.1.1.0 far.drop-others.ensures _ _ _ _ c.before.before.before.before.before.before.before.before.tree_of.ensures c.enum-told2.given.1, tt)
+    let start = c.before.before.before.before.before.before.before.before.before.before.before.before.before.before.before.before.before.before.before.before.before.before.before.before.before.before.before.before.before.before.before.before.before.before.before.before.before.before.before.before.before.before.before in
+    let far = c.before.before.before.before.before.before.before.before.before.before.before.before.before in
+    let s = start.args in let p = start.requires in (switch_default_over s.fixed.now s.nums.now s.marks.now s.limit s.count s.at s.n p.1 (s.at + 17) refl s.out.now _ c.before.before.before.before.before.before.before.before.before.before.before.before.before.before.before.before.before.before.before.before.before.before.before.before.before.before.before.before.before.before.before.before.before.before.before.before.before.before.count_heads-cases.ensures _ _ _ _ _ _ c.before.before.before.before.before.before.before.before.before.before.before.before.before.before.before.before.before.before.before.before.before.before.before.before.before.before.before.before.before.before.before.before.before.before.before.before.put.ensures c.before.before.before.before.before.before.before.before.before.before.before.before.before.before.before.before.before.before.before.before.before.before.before.before.before.before.before.before.before.before.before.before.put-2.ensures c.before.before.before.before.before.before.before.before.before.before.before.before.before.before.before.before.before.before.before.before.before.before.before.before.before.before.before.before.put-3.ensures _ c.before.before.before.before.before.before.before.before.before.before.before.before.before.before.before.before.before.before.before.before.before.before.case_trees.ensures _ c.before.before.before.before.before.before.before.before.before.before.before.before.before.before.before.in-Done.is _ far.drop_others.auto.marks far.drop_others.ensures _ _ _ _ c.before.before.before.before.before.before.before.tree_of.ensures c.in_default-tree_of.is, tt)
 
 switch_node_unmark_requires : (t : ℕ) → switch-node-lts.Need-unmark-requires (switch_node_calls t) (switch_node_at t) switch-node.Post
 switch_node_unmark_requires t c κs =
-    c.before.before.before.before.before.before.before.before.before.before.tree_of.auto.1.1.0 ∙ c.before.before.before.before.before.before.before.before.before.before.before.before.before.before.before.before.drop-others.auto.1.1.0 ∙ c.before.before.before.before.before.before.before.before.before.before.before.before.before.before.before.before.before.before.before.before.before.before.before.before.before.before.before.before.case-trees.auto.1.1.0 ∙ c.before.before.before.before.before.before.before.before.before.before.before.before.before.before.before.before.before.before.before.before.before.before.before.before.before.before.before.before.before.before.before.before.before.before.before.before.before.before.before.before.before.before.before.before.before.before.before.before.before.before.before.requires.1.ready.sizes.2
+    c.before.before.before.before.before.before.before.before.tree_of.auto.marks ∙ c.before.before.before.before.before.before.before.before.before.before.before.before.before.before.drop_others.auto.marks ∙ c.before.before.before.before.before.before.before.before.before.before.before.before.before.before.before.before.before.before.before.before.before.before.before.case_trees.auto.marks ∙ c.before.before.before.before.before.before.before.before.before.before.before.before.before.before.before.before.before.before.before.before.before.before.before.before.before.before.before.before.before.before.before.before.before.before.before.before.before.before.before.before.before.before.before.before.requires.1.ready.sizes.2
 
-switch_node_same_length_7 : (t : ℕ) → switch-node-lts.Need-same-length-7 (switch_node_calls t) (switch_node_at t) switch-node.Post
+switch_node_same_length_7 : (t : ℕ) → switch-node-lts.Need-shape_of-nums (switch_node_calls t) (switch_node_at t) switch-node.Post
 switch_node_same_length_7 t c =
-    c.before.before.before.before.before.before.before.before.before.before.before.before.before.tree_of.auto.1.0 ∙ c.before.before.before.before.before.before.before.before.before.before.before.before.before.before.before.before.before.before.before.before.before.before.before.before.before.before.before.before.before.before.before.case-trees.auto.1.0
+    c.before.before.before.before.before.before.before.before.before.before.before.tree_of.auto.nums ∙ c.before.before.before.before.before.before.before.before.before.before.before.before.before.before.before.before.before.before.before.before.before.before.before.before.before.before.case_trees.auto.nums
 
-switch_node_same_length_8 : (t : ℕ) → switch-node-lts.Need-same-length-8 (switch_node_calls t) (switch_node_at t) switch-node.Post
+switch_node_same_length_8 : (t : ℕ) → switch-node-lts.Need-shape_of-marks (switch_node_calls t) (switch_node_at t) switch-node.Post
 switch_node_same_length_8 t c =
-    c.before.before.unmark.auto.0 ∙ c.before.before.before.before.before.before.before.before.before.before.before.before.before.tree_of.auto.1.1.0 ∙ c.before.before.before.before.before.before.before.before.before.before.before.before.before.before.before.before.before.before.before.drop-others.auto.1.1.0 ∙ c.before.before.before.before.before.before.before.before.before.before.before.before.before.before.before.before.before.before.before.before.before.before.before.before.before.before.before.before.before.before.before.case-trees.auto.1.1.0
+    c.before.before.unmark.auto.marks ∙ c.before.before.before.before.before.before.before.before.before.before.before.tree_of.auto.marks ∙ c.before.before.before.before.before.before.before.before.before.before.before.before.before.before.before.before.before.drop_others.auto.marks ∙ c.before.before.before.before.before.before.before.before.before.before.before.before.before.before.before.before.before.before.before.before.before.before.before.before.before.before.case_trees.auto.marks
 
-switch_node_same_length_9 : (t : ℕ) → switch-node-lts.Need-same-length-9 (switch_node_calls t) (switch_node_at t) switch-node.Post
+switch_node_same_length_9 : (t : ℕ) → switch-node-lts.Need-shape_of-out (switch_node_calls t) (switch_node_at t) switch-node.Post
 switch_node_same_length_9 t c =
-    c.before.before.before.before.before.before.before.before.before.before.before.before.before.tree_of.auto.1.1.1.0 ∙ c.before.before.before.before.before.before.before.before.before.before.before.before.before.before.before.before.before.before.before.before.before.before.before.before.before.before.before.before.before.before.before.case-trees.auto.1.1.1.0 ∙ c.before.before.before.before.before.before.before.before.before.before.before.before.before.before.before.before.before.before.before.before.before.before.before.before.before.before.before.before.before.before.before.before.before.before.before.before.before.put3.auto.0 ∙ c.before.before.before.before.before.before.before.before.before.before.before.before.before.before.before.before.before.before.before.before.before.before.before.before.before.before.before.before.before.before.before.before.before.before.before.before.before.before.before.before.before.put2.auto.0 ∙ c.before.before.before.before.before.before.before.before.before.before.before.before.before.before.before.before.before.before.before.before.before.before.before.before.before.before.before.before.before.before.before.before.before.before.before.before.before.before.before.before.before.before.before.before.before.put.auto.0
+    c.before.before.before.before.before.before.before.before.before.before.before.tree_of.auto.out ∙ c.before.before.before.before.before.before.before.before.before.before.before.before.before.before.before.before.before.before.before.before.before.before.before.before.before.before.case_trees.auto.out ∙ c.before.before.before.before.before.before.before.before.before.before.before.before.before.before.before.before.before.before.before.before.before.before.before.before.before.before.before.before.before.before.before.before.put-3.auto.out ∙ c.before.before.before.before.before.before.before.before.before.before.before.before.before.before.before.before.before.before.before.before.before.before.before.before.before.before.before.before.before.before.before.before.before.before.before.before.put-2.auto.out ∙ c.before.before.before.before.before.before.before.before.before.before.before.before.before.before.before.before.before.before.before.before.before.before.before.before.before.before.before.before.before.before.before.before.before.before.before.before.before.before.before.before.put.auto.out
 
-switch_node_returns_3 : (t : ℕ) → switch-node-lts.Need-returns-3 (switch_node_calls t) (switch_node_at t) switch-node.Post
+switch_node_returns_3 : (t : ℕ) → switch-node-lts.Need-returns (switch_node_calls t) (switch_node_at t) switch-node.Post
 switch_node_returns_3 t c =
-    let start = c.before.before.before.before.before.before.before.before.before.before.before.before.before.before.before.before.before.before.before.before.before.before.before.before.before.before.before.before.before.before.before.before.before.before.before.before.before.before.before.before.before.before.before.before.before.before.before.before.before.before.before.before.before.before in
-    let far = c.before.before.before.before.before.before.before.before.before.before.before.before.before.before.before.before.before.before.before in
+    let start = c.before.before.before.before.before.before.before.before.before.before.before.before.before.before.before.before.before.before.before.before.before.before.before.before.before.before.before.before.before.before.before.before.before.before.before.before.before.before.before.before.before.before.before.before.before.before.before in
+    let far = c.before.before.before.before.before.before.before.before.before.before.before.before.before.before.before.before.before in
     let far2 = c.before.before in
-    let s = start.args in let p = start.requires in switch_done s.fixed.now s.nums.now s.marks.now s.limit s.count s.at s.n p.1 (s.at + 17) refl s.out.now _ c.before.before.before.before.before.before.before.before.before.before.before.before.before.before.before.before.before.before.before.before.before.before.before.before.before.before.before.before.before.before.before.before.before.before.before.before.before.before.before.before.before.before.before.before.before.before.before.count-heads.ensures _ _ _ _ _ _ c.before.before.before.before.before.before.before.before.before.before.before.before.before.before.before.before.before.before.before.before.before.before.before.before.before.before.before.before.before.before.before.before.before.before.before.before.before.before.before.before.before.before.before.before.before.put.ensures c.before.before.before.before.before.before.before.before.before.before.before.before.before.before.before.before.before.before.before.before.before.before.before.before.before.before.before.before.before.before.before.before.before.before.before.before.before.before.before.before.before.put2.ensures c.before.before.before.before.before.before.before.before.before.before.before.before.before.before.before.before.before.before.before.before.before.before.before.before.before.before.before.before.before.before.before.before.before.before.before.before.before.put3.ensures _ c.before.before.before.before.before.before.before.before.before.before.before.before.before.before.before.before.before.before.before.before.before.before.before.before.before.before.before.before.before.before.before.case-trees.ensures _ c.before.before.before.before.before.before.before.before.before.before.before.before.before.before.before.before.before.before.before.before.before.before.before.next.given.1 _ far.drop-others.auto.1.1.0 far.drop-others.ensures _ _ _ _ c.before.before.before.before.before.before.before.before.before.before.before.before.before.tree_of.ensures _ c.before.before.before.before.before.end.given.1 _ far2.unmark.auto.0 far2.unmark.ensures
+    let s = start.args in let p = start.requires in switch_done s.fixed.now s.nums.now s.marks.now s.limit s.count s.at s.n p.1 (s.at + 17) refl s.out.now _ c.before.before.before.before.before.before.before.before.before.before.before.before.before.before.before.before.before.before.before.before.before.before.before.before.before.before.before.before.before.before.before.before.before.before.before.before.before.before.before.before.before.before.count_heads-cases.ensures _ _ _ _ _ _ c.before.before.before.before.before.before.before.before.before.before.before.before.before.before.before.before.before.before.before.before.before.before.before.before.before.before.before.before.before.before.before.before.before.before.before.before.before.before.before.before.put.ensures c.before.before.before.before.before.before.before.before.before.before.before.before.before.before.before.before.before.before.before.before.before.before.before.before.before.before.before.before.before.before.before.before.before.before.before.before.put-2.ensures c.before.before.before.before.before.before.before.before.before.before.before.before.before.before.before.before.before.before.before.before.before.before.before.before.before.before.before.before.before.before.before.before.put-3.ensures _ c.before.before.before.before.before.before.before.before.before.before.before.before.before.before.before.before.before.before.before.before.before.before.before.before.before.before.case_trees.ensures _ c.before.before.before.before.before.before.before.before.before.before.before.before.before.before.before.before.before.before.before.in-Done.is _ far.drop_others.auto.marks far.drop_others.ensures _ _ _ _ c.before.before.before.before.before.before.before.before.before.before.before.tree_of.ensures _ c.before.before.before.before.in-Done-tree_of.is _ far2.unmark.auto.marks far2.unmark.ensures
 
-test_node_cast_mark : (t : ℕ) → test-node-lts.Need-overflow-cast-mark (test_node_calls t) (test_node_at t) test-node.Post
+test_node_cast_mark : (t : ℕ) → test-node-lts.Need-overflow_cast-mark (test_node_calls t) (test_node_at t) test-node.Post
 test_node_cast_mark t c =
     let start = c.before.before.before.before in
     let s = start.args in let p = start.requires in omega (arith, p.1.room, p.1.ready.within.0)
 
-test_node_add_mark : (t : ℕ) → test-node-lts.Need-overflow-add-mark (test_node_calls t) (test_node_at t) test-node.Post
+test_node_add_mark : (t : ℕ) → test-node-lts.Need-overflow_add-mark (test_node_calls t) (test_node_at t) test-node.Post
 test_node_add_mark t c =
     let start = c.before.before.before.before in
     let s = start.args in let p = start.requires in omega (arith, p.1.room, p.1.ready.within.0)
 
-test_node_put_front_requires : (t : ℕ) → test-node-lts.Need-put-front-requires (test_node_calls t) (test_node_at t) test-node.Post
+test_node_put_front_requires : (t : ℕ) → test-node-lts.Need-put_front-slot-requires (test_node_calls t) (test_node_at t) test-node.Post
 test_node_put_front_requires t c κs =
-    let start = c.before.before.before.before.before.before in
+    let start = c.before.before.before.before.before in
     let s = start.args in let p = start.requires in (p.1.ready.sizes.0, p.1.ready.sizes.1, omega (arith, p.1.room, p.1.ready.within.0), (test_id s.fixed.now s.nums.now s.marks.now s.limit s.count s.at s.id p.1).0, (test_id s.fixed.now s.nums.now s.marks.now s.limit s.count s.at s.id p.1).1)
 
-test_node_cast_put : (t : ℕ) → test-node-lts.Need-overflow-cast-put (test_node_calls t) (test_node_at t) test-node.Post
+test_node_cast_put : (t : ℕ) → test-node-lts.Need-overflow_cast-slot (test_node_calls t) (test_node_at t) test-node.Post
 test_node_cast_put t c =
-    let start = c.before.before.before.before.before.before.before.before.before.before in
-    let s = start.args in let p = start.requires in omega (arith, p.1.ready.within.0, slot_most s.fixed.now s.nums.now s.marks.now s.limit s.count s.at s.id p.1 (s.at + 17) refl s.out.now _ c.before.before.before.put_front.ensures.1)
+    let start = c.before.before.before.before.before.before.before.before.before in
+    let s = start.args in let p = start.requires in omega (arith, p.1.ready.within.0, slot_most s.fixed.now s.nums.now s.marks.now s.limit s.count s.at s.id p.1 (s.at + 17) refl s.out.now _ c.before.before.before.put_front-slot.ensures.1)
 
-test_node_add_put : (t : ℕ) → test-node-lts.Need-overflow-add-put (test_node_calls t) (test_node_at t) test-node.Post
+test_node_add_put : (t : ℕ) → test-node-lts.Need-overflow_add-slot (test_node_calls t) (test_node_at t) test-node.Post
 test_node_add_put t c =
-    let start = c.before.before.before.before.before.before.before.before.before.before in
-    let s = start.args in let p = start.requires in omega (arith, p.1.ready.within.0, slot_most s.fixed.now s.nums.now s.marks.now s.limit s.count s.at s.id p.1 (s.at + 17) refl s.out.now _ c.before.before.before.put_front.ensures.1)
+    let start = c.before.before.before.before.before.before.before.before.before in
+    let s = start.args in let p = start.requires in omega (arith, p.1.ready.within.0, slot_most s.fixed.now s.nums.now s.marks.now s.limit s.count s.at s.id p.1 (s.at + 17) refl s.out.now _ c.before.before.before.put_front-slot.ensures.1)
 
 test_node_strike_requires : (t : ℕ) → test-node-lts.Need-strike-requires (test_node_calls t) (test_node_at t) test-node.Post
 test_node_strike_requires t c κs =
-    let start = c.before.before.before.before.before.before.before.before.before.before.before.before.before.before.before in
+    let start = c.before.before.before.before.before.before.before.before.before.before.before.before.before in
     let s = start.args in let p = start.requires in (p.1.ready.sizes.0, p.1.ready.sizes.1, p.1.ready.sizes.2, (test_id s.fixed.now s.nums.now s.marks.now s.limit s.count s.at s.id p.1).0, (test_id s.fixed.now s.nums.now s.marks.now s.limit s.count s.at s.id p.1).1)
 
-test_node_add_tree_of : (t : ℕ) → test-node-lts.Need-overflow-add-tree-of (test_node_calls t) (test_node_at t) test-node.Post
+test_node_add_tree_of : (t : ℕ) → test-node-lts.Need-overflow_add-slot-2 (test_node_calls t) (test_node_at t) test-node.Post
 test_node_add_tree_of t c =
-    let start = c.before.before.before.before.before.before.before.before.before.before.before.before.before.before.before.before.before.before.before.before.before in
-    let s = start.args in let p = start.requires in omega (arith, p.1.ready.within.0, slot_most s.fixed.now s.nums.now s.marks.now s.limit s.count s.at s.id p.1 (s.at + 17) refl s.out.now _ c.before.before.before.before.before.before.before.before.before.before.before.before.before.before.put_front.ensures.1)
+    let start = c.before.before.before.before.before.before.before.before.before.before.before.before.before.before.before.before.before.before.before in
+    let s = start.args in let p = start.requires in omega (arith, p.1.ready.within.0, slot_most s.fixed.now s.nums.now s.marks.now s.limit s.count s.at s.id p.1 (s.at + 17) refl s.out.now _ c.before.before.before.before.before.before.before.before.before.before.before.before.before.put_front-slot.ensures.1)
 
-test_node_tree_of_requires : (t : ℕ) → test-node-lts.Need-tree-of-requires (test_node_calls t) (test_node_at t) test-node.Post
+test_node_tree_of_requires : (t : ℕ) → test-node-lts.Need-tree_of-requires (test_node_calls t) (test_node_at t) test-node.Post
 test_node_tree_of_requires t c κs =
-    let start = c.before.before.before.before.before.before.before.before.before.before.before.before.before.before.before.before.before.before.before.before.before in
-    let far = c.before.before.before.before.before.before.before.before.before.before.before.before.before.before in
+    let start = c.before.before.before.before.before.before.before.before.before.before.before.before.before.before.before.before.before.before.before in
+    let far = c.before.before.before.before.before.before.before.before.before.before.before.before.before in
     let far2 = c.before.before.before.before.before in
-    let s = start.args in let p = start.requires in let x = yes_needs s.fixed.now s.nums.now s.marks.now s.limit s.count s.at s.id p.1 (s.at + 17) refl s.out.now _ far.put_front.ensures.1 _ _ _ far.put_front.ensures.0 c.before.before.before.before.before.before.before.before.before.before.put.ensures far2.strike.auto.1.1.0 far2.strike.ensures in (omega (arith, p.0, x.0), x.1)
+    let s = start.args in let p = start.requires in let x = yes_needs s.fixed.now s.nums.now s.marks.now s.limit s.count s.at s.id p.1 (s.at + 17) refl s.out.now _ far.put_front-slot.ensures.1 _ _ _ far.put_front-slot.ensures.0 c.before.before.before.before.before.before.before.before.before.put.ensures far2.strike.auto.marks far2.strike.ensures in (omega (arith, p.0, x.0), x.1)
 
-test_node_same_length : (t : ℕ) → test-node-lts.Need-same-length (test_node_calls t) (test_node_at t) test-node.Post
+test_node_same_length : (t : ℕ) → test-node-lts.Need-shape_of-nums-in_default (test_node_calls t) (test_node_at t) test-node.Post
 test_node_same_length t c =
-    c.before.before.before.before.before.before.before.before.tree_of.auto.1.0
+    c.before.before.before.before.before.before.before.tree_of.auto.nums
 
-test_node_same_length_2 : (t : ℕ) → test-node-lts.Need-same-length-2 (test_node_calls t) (test_node_at t) test-node.Post
+test_node_same_length_2 : (t : ℕ) → test-node-lts.Need-shape_of-marks-in_default (test_node_calls t) (test_node_at t) test-node.Post
 test_node_same_length_2 t c =
-    c.before.before.before.before.before.before.before.before.tree_of.auto.1.1.0 ∙ c.before.before.before.before.before.before.before.before.before.before.before.before.before.before.strike.auto.1.1.0
+    c.before.before.before.before.before.before.before.tree_of.auto.marks ∙ c.before.before.before.before.before.before.before.before.before.before.before.before.before.strike.auto.marks
 
-test_node_same_length_3 : (t : ℕ) → test-node-lts.Need-same-length-3 (test_node_calls t) (test_node_at t) test-node.Post
+test_node_same_length_3 : (t : ℕ) → test-node-lts.Need-shape_of-out-in_default (test_node_calls t) (test_node_at t) test-node.Post
 test_node_same_length_3 t c =
-    c.before.before.before.before.before.before.before.before.tree_of.auto.1.1.1.0 ∙ c.before.before.before.before.before.before.before.before.before.before.before.before.before.before.before.before.before.before.before.put.auto.0 ∙ c.before.before.before.before.before.before.before.before.before.before.before.before.before.before.before.before.before.before.before.before.before.before.before.put_front.auto.1.1.0
+    c.before.before.before.before.before.before.before.tree_of.auto.out ∙ c.before.before.before.before.before.before.before.before.before.before.before.before.before.before.before.before.before.put.auto.out ∙ c.before.before.before.before.before.before.before.before.before.before.before.before.before.before.before.before.before.before.before.before.before.put_front-slot.auto.out
 
-test_node_returns : (t : ℕ) → test-node-lts.Need-returns (test_node_calls t) (test_node_at t) test-node.Post
+test_node_returns : (t : ℕ) → test-node-lts.Need-returns-in_default (test_node_calls t) (test_node_at t) test-node.Post
 test_node_returns t c =
-    let start = c.before.before.before.before.before.before.before.before.before.before.before.before.before.before.before.before.before.before.before.before.before.before.before.before.before.before.before.before.before.before in
-    let far = c.before.before.before.before.before.before.before.before.before.before.before.before.before.before.before.before.before.before.before.before.before.before.before in
-    let far2 = c.before.before.before.before.before.before.before.before.before.before.before.before.before.before in
-    let s = start.args in let p = start.requires in (yes_over s.fixed.now s.nums.now s.marks.now s.limit s.count s.at s.id p.1 (s.at + 17) refl s.out.now _ far.put_front.ensures.1 _ _ _ far.put_front.ensures.0 c.before.before.before.before.before.before.before.before.before.before.before.before.before.before.before.before.before.before.before.put.ensures far2.strike.auto.1.1.0 far2.strike.ensures _ _ _ _ c.before.before.before.before.before.before.before.before.tree_of.ensures c.enum_told.given.1, tt)
+    let start = c.before.before.before.before.before.before.before.before.before.before.before.before.before.before.before.before.before.before.before.before.before.before.before.before.before.before.before in
+    let far = c.before.before.before.before.before.before.before.before.before.before.before.before.before.before.before.before.before.before.before.before.before in
+    let far2 = c.before.before.before.before.before.before.before.before.before.before.before.before.before in
+    let s = start.args in let p = start.requires in (yes_over s.fixed.now s.nums.now s.marks.now s.limit s.count s.at s.id p.1 (s.at + 17) refl s.out.now _ far.put_front-slot.ensures.1 _ _ _ far.put_front-slot.ensures.0 c.before.before.before.before.before.before.before.before.before.before.before.before.before.before.before.before.before.put.ensures far2.strike.auto.marks far2.strike.ensures _ _ _ _ c.before.before.before.before.before.before.before.tree_of.ensures c.in_default.is, tt)
 
 test_node_unstrike_requires : (t : ℕ) → test-node-lts.Need-unstrike-requires (test_node_calls t) (test_node_at t) test-node.Post
 test_node_unstrike_requires t c κs =
-    c.before.before.before.before.before.before.before.before.before.before.tree_of.auto.1.1.0 ∙ c.before.before.before.before.before.before.before.before.before.before.before.before.before.before.before.before.strike.auto.1.1.0 ∙ c.before.before.before.before.before.before.before.before.before.before.before.before.before.before.before.before.before.before.before.before.before.before.before.before.before.before.before.before.before.before.before.before.requires.1.ready.sizes.2
+    c.before.before.before.before.before.before.before.before.tree_of.auto.marks ∙ c.before.before.before.before.before.before.before.before.before.before.before.before.before.before.strike.auto.marks ∙ c.before.before.before.before.before.before.before.before.before.before.before.before.before.before.before.before.before.before.before.before.before.before.before.before.before.before.before.before.requires.1.ready.sizes.2
 
-test_node_add_put_2 : (t : ℕ) → test-node-lts.Need-overflow-add-put-2 (test_node_calls t) (test_node_at t) test-node.Post
+test_node_add_put_2 : (t : ℕ) → test-node-lts.Need-overflow_add-slot-3 (test_node_calls t) (test_node_at t) test-node.Post
 test_node_add_put_2 t c =
-    let start = c.before.before.before.before.before.before.before.before.before.before.before.before.before.before.before.before.before.before.before.before.before.before.before.before.before.before.before.before.before.before.before.before.before.before.before.before in
-    let s = start.args in let p = start.requires in omega (arith, p.1.ready.within.0, slot_most s.fixed.now s.nums.now s.marks.now s.limit s.count s.at s.id p.1 (s.at + 17) refl s.out.now _ c.before.before.before.before.before.before.before.before.before.before.before.before.before.before.before.before.before.before.before.before.before.before.before.before.before.before.before.before.before.put_front.ensures.1)
+    let start = c.before.before.before.before.before.before.before.before.before.before.before.before.before.before.before.before.before.before.before.before.before.before.before.before.before.before.before.before.before.before.before.before in
+    let s = start.args in let p = start.requires in omega (arith, p.1.ready.within.0, slot_most s.fixed.now s.nums.now s.marks.now s.limit s.count s.at s.id p.1 (s.at + 17) refl s.out.now _ c.before.before.before.before.before.before.before.before.before.before.before.before.before.before.before.before.before.before.before.before.before.before.before.before.before.before.put_front-slot.ensures.1)
 
-test_node_cast_put_2 : (t : ℕ) → test-node-lts.Need-overflow-cast-put-2 (test_node_calls t) (test_node_at t) test-node.Post
+test_node_cast_put_2 : (t : ℕ) → test-node-lts.Need-overflow_cast-next (test_node_calls t) (test_node_at t) test-node.Post
 test_node_cast_put_2 t c =
-    let start = c.before.before.before.before.before.before.before.before.before.before.before.before.before.before.before.before.before.before.before.before.before.before.before.before.before.before.before.before.before.before.before.before.before.before.before.before in
-    let far = c.before.before.before.before.before.before.before.before.before.before.before.before.before.before.before.before.before.before.before.before.before.before.before.before.before.before.before.before.before in
-    let far2 = c.before.before.before.before.before.before.before.before.before.before.before.before.before.before.before.before.before.before.before.before in
+    let start = c.before.before.before.before.before.before.before.before.before.before.before.before.before.before.before.before.before.before.before.before.before.before.before.before.before.before.before.before.before.before.before.before in
+    let far = c.before.before.before.before.before.before.before.before.before.before.before.before.before.before.before.before.before.before.before.before.before.before.before.before.before.before in
+    let far2 = c.before.before.before.before.before.before.before.before.before.before.before.before.before.before.before.before.before.before in
     let far3 = c.before.before.before in
-    let s = start.args in let p = start.requires in omega (arith, p.1.ready.within.0, next_most s.fixed.now s.nums.now s.marks.now s.limit s.count s.at s.id p.1 (s.at + 17) refl s.out.now _ far.put_front.ensures.1 _ _ _ far.put_front.ensures.0 c.before.before.before.before.before.before.before.before.before.before.before.before.before.before.before.before.before.before.before.before.before.before.before.before.before.put.ensures far2.strike.auto.1.1.0 far2.strike.ensures _ _ _ _ c.before.before.before.before.before.before.before.before.before.before.before.before.before.before.tree_of.ensures _ c.before.before.before.before.before.before.next.given.1 _ far3.unstrike.auto.0 far3.unstrike.ensures)
+    let s = start.args in let p = start.requires in omega (arith, p.1.ready.within.0, next_most s.fixed.now s.nums.now s.marks.now s.limit s.count s.at s.id p.1 (s.at + 17) refl s.out.now _ far.put_front-slot.ensures.1 _ _ _ far.put_front-slot.ensures.0 c.before.before.before.before.before.before.before.before.before.before.before.before.before.before.before.before.before.before.before.before.before.before.put.ensures far2.strike.auto.marks far2.strike.ensures _ _ _ _ c.before.before.before.before.before.before.before.before.before.before.before.before.tree_of.ensures _ c.before.before.before.before.before.in-Done.is _ far3.unstrike.auto.marks far3.unstrike.ensures)
 
-test_node_drop_having_requires : (t : ℕ) → test-node-lts.Need-drop-having-requires (test_node_calls t) (test_node_at t) test-node.Post
+test_node_drop_having_requires : (t : ℕ) → test-node-lts.Need-drop_having-requires (test_node_calls t) (test_node_at t) test-node.Post
 test_node_drop_having_requires t c κs =
-    let start = c.before.before.before.before.before.before.before.before.before.before.before.before.before.before.before.before.before.before.before.before.before.before.before.before.before.before.before.before.before.before.before.before.before.before.before.before.before.before.before.before.before in
-    let far = c.before.before.before.before.before.before.before.before.before.before.before.before.before.before.before.before.before.before.before in
-    let s = start.args in let p = start.requires in (p.1.ready.sizes.0, far.tree_of.auto.1.0 ∙ p.1.ready.sizes.1, c.before.before.before.before.before.before.before.before.unstrike.auto.0 ∙ far.tree_of.auto.1.1.0 ∙ c.before.before.before.before.before.before.before.before.before.before.before.before.before.before.before.before.before.before.before.before.before.before.before.before.before.strike.auto.1.1.0 ∙ p.1.ready.sizes.2, (test_id s.fixed.now s.nums.now s.marks.now s.limit s.count s.at s.id p.1).0, (test_id s.fixed.now s.nums.now s.marks.now s.limit s.count s.at s.id p.1).1)
+    let start = c.before.before.before.before.before.before.before.before.before.before.before.before.before.before.before.before.before.before.before.before.before.before.before.before.before.before.before.before.before.before.before.before.before.before.before.before in
+    let far = c.before.before.before.before.before.before.before.before.before.before.before.before.before.before.before.before in
+    let s = start.args in let p = start.requires in (p.1.ready.sizes.0, far.tree_of.auto.nums ∙ p.1.ready.sizes.1, c.before.before.before.before.before.before.before.unstrike.auto.marks ∙ far.tree_of.auto.marks ∙ c.before.before.before.before.before.before.before.before.before.before.before.before.before.before.before.before.before.before.before.before.before.before.strike.auto.marks ∙ p.1.ready.sizes.2, (test_id s.fixed.now s.nums.now s.marks.now s.limit s.count s.at s.id p.1).0, (test_id s.fixed.now s.nums.now s.marks.now s.limit s.count s.at s.id p.1).1)
 
-test_node_tree_of_requires_2 : (t : ℕ) → test-node-lts.Need-tree-of-requires-2 (test_node_calls t) (test_node_at t) test-node.Post
+test_node_tree_of_requires_2 : (t : ℕ) → test-node-lts.Need-tree_of-requires-2 (test_node_calls t) (test_node_at t) test-node.Post
 test_node_tree_of_requires_2 t c κs =
-    let start = c.before.before.before.before.before.before.before.before.before.before.before.before.before.before.before.before.before.before.before.before.before.before.before.before.before.before.before.before.before.before.before.before.before.before.before.before.before.before.before.before.before.before.before.before.before.before.before in
-    let far = c.before.before.before.before.before.before.before.before.before.before.before.before.before.before.before.before.before.before.before.before.before.before.before.before.before.before.before.before.before.before.before.before.before.before.before.before.before.before.before.before in
-    let far2 = c.before.before.before.before.before.before.before.before.before.before.before.before.before.before.before.before.before.before.before.before.before.before.before.before.before.before.before.before.before.before.before in
-    let far3 = c.before.before.before.before.before.before.before.before.before.before.before.before.before.before in
+    let start = c.before.before.before.before.before.before.before.before.before.before.before.before.before.before.before.before.before.before.before.before.before.before.before.before.before.before.before.before.before.before.before.before.before.before.before.before.before.before.before.before.before.before in
+    let far = c.before.before.before.before.before.before.before.before.before.before.before.before.before.before.before.before.before.before.before.before.before.before.before.before.before.before.before.before.before.before.before.before.before.before.before.before in
+    let far2 = c.before.before.before.before.before.before.before.before.before.before.before.before.before.before.before.before.before.before.before.before.before.before.before.before.before.before.before.before in
+    let far3 = c.before.before.before.before.before.before.before.before.before.before.before.before.before in
     let far4 = c.before.before.before.before.before in
-    let s = start.args in let p = start.requires in let x = no_needs s.fixed.now s.nums.now s.marks.now s.limit s.count s.at s.id p.1 (s.at + 17) refl s.out.now _ far.put_front.ensures.1 _ _ _ far.put_front.ensures.0 c.before.before.before.before.before.before.before.before.before.before.before.before.before.before.before.before.before.before.before.before.before.before.before.before.before.before.before.before.before.before.before.before.before.before.before.before.put.ensures far2.strike.auto.1.1.0 far2.strike.ensures _ _ _ _ c.before.before.before.before.before.before.before.before.before.before.before.before.before.before.before.before.before.before.before.before.before.before.before.before.before.tree_of.ensures _ c.before.before.before.before.before.before.before.before.before.before.before.before.before.before.before.before.before.next.given.1 _ far3.unstrike.auto.0 far3.unstrike.ensures _ _ c.before.before.before.before.before.before.before.before.before.before.put2.ensures far4.drop-having.auto.1.1.0 far4.drop-having.ensures in (omega (arith, p.0, x.0), x.1)
+    let s = start.args in let p = start.requires in let x = no_needs s.fixed.now s.nums.now s.marks.now s.limit s.count s.at s.id p.1 (s.at + 17) refl s.out.now _ far.put_front-slot.ensures.1 _ _ _ far.put_front-slot.ensures.0 c.before.before.before.before.before.before.before.before.before.before.before.before.before.before.before.before.before.before.before.before.before.before.before.before.before.before.before.before.before.before.before.before.put.ensures far2.strike.auto.marks far2.strike.ensures _ _ _ _ c.before.before.before.before.before.before.before.before.before.before.before.before.before.before.before.before.before.before.before.before.before.before.tree_of.ensures _ c.before.before.before.before.before.before.before.before.before.before.before.before.before.before.before.in-Done.is _ far3.unstrike.auto.marks far3.unstrike.ensures _ _ c.before.before.before.before.before.before.before.before.before.put-2.ensures far4.drop_having.auto.marks far4.drop_having.ensures in (omega (arith, p.0, x.0), x.1)
 
-test_node_same_length_4 : (t : ℕ) → test-node-lts.Need-same-length-4 (test_node_calls t) (test_node_at t) test-node.Post
+test_node_same_length_4 : (t : ℕ) → test-node-lts.Need-shape_of-nums-in_default-tree_of (test_node_calls t) (test_node_at t) test-node.Post
 test_node_same_length_4 t c =
-    c.before.before.before.before.before.before.before.before.tree-of2.auto.1.0 ∙ c.before.before.before.before.before.before.before.before.before.before.before.before.before.before.before.before.before.before.before.before.before.before.before.before.before.before.before.before.before.before.before.before.before.before.tree_of.auto.1.0
+    c.before.before.before.before.before.before.before.tree_of-2.auto.nums ∙ c.before.before.before.before.before.before.before.before.before.before.before.before.before.before.before.before.before.before.before.before.before.before.before.before.before.before.before.before.before.before.tree_of.auto.nums
 
-test_node_same_length_5 : (t : ℕ) → test-node-lts.Need-same-length-5 (test_node_calls t) (test_node_at t) test-node.Post
+test_node_same_length_5 : (t : ℕ) → test-node-lts.Need-shape_of-marks-in_default-tree_of (test_node_calls t) (test_node_at t) test-node.Post
 test_node_same_length_5 t c =
-    c.before.before.before.before.before.before.before.before.tree-of2.auto.1.1.0 ∙ c.before.before.before.before.before.before.before.before.before.before.before.before.before.before.drop-having.auto.1.1.0 ∙ c.before.before.before.before.before.before.before.before.before.before.before.before.before.before.before.before.before.before.before.before.before.before.before.unstrike.auto.0 ∙ c.before.before.before.before.before.before.before.before.before.before.before.before.before.before.before.before.before.before.before.before.before.before.before.before.before.before.before.before.before.before.before.before.before.before.tree_of.auto.1.1.0 ∙ c.before.before.before.before.before.before.before.before.before.before.before.before.before.before.before.before.before.before.before.before.before.before.before.before.before.before.before.before.before.before.before.before.before.before.before.before.before.before.before.before.strike.auto.1.1.0
+    c.before.before.before.before.before.before.before.tree_of-2.auto.marks ∙ c.before.before.before.before.before.before.before.before.before.before.before.before.before.drop_having.auto.marks ∙ c.before.before.before.before.before.before.before.before.before.before.before.before.before.before.before.before.before.before.before.before.before.unstrike.auto.marks ∙ c.before.before.before.before.before.before.before.before.before.before.before.before.before.before.before.before.before.before.before.before.before.before.before.before.before.before.before.before.before.before.tree_of.auto.marks ∙ c.before.before.before.before.before.before.before.before.before.before.before.before.before.before.before.before.before.before.before.before.before.before.before.before.before.before.before.before.before.before.before.before.before.before.before.before.strike.auto.marks
 
-test_node_same_length_6 : (t : ℕ) → test-node-lts.Need-same-length-6 (test_node_calls t) (test_node_at t) test-node.Post
+test_node_same_length_6 : (t : ℕ) → test-node-lts.Need-shape_of-out-in_default-tree_of (test_node_calls t) (test_node_at t) test-node.Post
 test_node_same_length_6 t c =
-    c.before.before.before.before.before.before.before.before.tree-of2.auto.1.1.1.0 ∙ c.before.before.before.before.before.before.before.before.before.before.before.before.before.before.before.before.before.before.before.put2.auto.0 ∙ c.before.before.before.before.before.before.before.before.before.before.before.before.before.before.before.before.before.before.before.before.before.before.before.before.before.before.before.before.before.before.before.before.before.before.tree_of.auto.1.1.1.0 ∙ c.before.before.before.before.before.before.before.before.before.before.before.before.before.before.before.before.before.before.before.before.before.before.before.before.before.before.before.before.before.before.before.before.before.before.before.before.before.before.before.before.before.before.before.before.before.put.auto.0 ∙ c.before.before.before.before.before.before.before.before.before.before.before.before.before.before.before.before.before.before.before.before.before.before.before.before.before.before.before.before.before.before.before.before.before.before.before.before.before.before.before.before.before.before.before.before.before.before.before.before.before.put_front.auto.1.1.0
+    c.before.before.before.before.before.before.before.tree_of-2.auto.out ∙ c.before.before.before.before.before.before.before.before.before.before.before.before.before.before.before.before.before.put-2.auto.out ∙ c.before.before.before.before.before.before.before.before.before.before.before.before.before.before.before.before.before.before.before.before.before.before.before.before.before.before.before.before.before.before.tree_of.auto.out ∙ c.before.before.before.before.before.before.before.before.before.before.before.before.before.before.before.before.before.before.before.before.before.before.before.before.before.before.before.before.before.before.before.before.before.before.before.before.before.before.before.before.put.auto.out ∙ c.before.before.before.before.before.before.before.before.before.before.before.before.before.before.before.before.before.before.before.before.before.before.before.before.before.before.before.before.before.before.before.before.before.before.before.before.before.before.before.before.before.before.before.before.put_front-slot.auto.out
 
-test_node_returns_2 : (t : ℕ) → test-node-lts.Need-returns-2 (test_node_calls t) (test_node_at t) test-node.Post
+test_node_returns_2 : (t : ℕ) → test-node-lts.Need-returns-in_default-tree_of (test_node_calls t) (test_node_at t) test-node.Post
 test_node_returns_2 t c =
-    let start = c.before.before.before.before.before.before.before.before.before.before.before.before.before.before.before.before.before.before.before.before.before.before.before.before.before.before.before.before.before.before.before.before.before.before.before.before.before.before.before.before.before.before.before.before.before.before.before.before.before.before.before.before.before.before.before.before in
-    let far = c.before.before.before.before.before.before.before.before.before.before.before.before.before.before.before.before.before.before.before.before.before.before.before.before.before.before.before.before.before.before.before.before.before.before.before.before.before.before.before.before.before.before.before.before.before.before.before.before.before in
-    let far2 = c.before.before.before.before.before.before.before.before.before.before.before.before.before.before.before.before.before.before.before.before.before.before.before.before.before.before.before.before.before.before.before.before.before.before.before.before.before.before.before.before in
-    let far3 = c.before.before.before.before.before.before.before.before.before.before.before.before.before.before.before.before.before.before.before.before.before.before.before in
-    let far4 = c.before.before.before.before.before.before.before.before.before.before.before.before.before.before in
-    let s = start.args in let p = start.requires in (no_over s.fixed.now s.nums.now s.marks.now s.limit s.count s.at s.id p.1 (s.at + 17) refl s.out.now _ far.put_front.ensures.1 _ _ _ far.put_front.ensures.0 c.before.before.before.before.before.before.before.before.before.before.before.before.before.before.before.before.before.before.before.before.before.before.before.before.before.before.before.before.before.before.before.before.before.before.before.before.before.before.before.before.before.before.before.before.before.put.ensures far2.strike.auto.1.1.0 far2.strike.ensures _ _ _ _ c.before.before.before.before.before.before.before.before.before.before.before.before.before.before.before.before.before.before.before.before.before.before.before.before.before.before.before.before.before.before.before.before.before.before.tree_of.ensures _ c.before.before.before.before.before.before.before.before.before.before.before.before.before.before.before.before.before.before.before.before.before.before.before.before.before.before.next.given.1 _ far3.unstrike.auto.0 far3.unstrike.ensures _ _ c.before.before.before.before.before.before.before.before.before.before.before.before.before.before.before.before.before.before.before.put2.ensures far4.drop-having.auto.1.1.0 far4.drop-having.ensures _ _ _ _ c.before.before.before.before.before.before.before.before.tree-of2.ensures c.enum-told2.given.1, tt)
+    let start = c.before.before.before.before.before.before.before.before.before.before.before.before.before.before.before.before.before.before.before.before.before.before.before.before.before.before.before.before.before.before.before.before.before.before.before.before.before.before.before.before.before.before.before.before.before.before.before.before.before.before in
+    let far = c.before.before.before.before.before.before.before.before.before.before.before.before.before.before.before.before.before.before.before.before.before.before.before.before.before.before.before.before.before.before.before.before.before.before.before.before.before.before.before.before.before.before.before.before in
+    let far2 = c.before.before.before.before.before.before.before.before.before.before.before.before.before.before.before.before.before.before.before.before.before.before.before.before.before.before.before.before.before.before.before.before.before.before.before.before in
+    let far3 = c.before.before.before.before.before.before.before.before.before.before.before.before.before.before.before.before.before.before.before.before.before in
+    let far4 = c.before.before.before.before.before.before.before.before.before.before.before.before.before in
+    let s = start.args in let p = start.requires in (no_over s.fixed.now s.nums.now s.marks.now s.limit s.count s.at s.id p.1 (s.at + 17) refl s.out.now _ far.put_front-slot.ensures.1 _ _ _ far.put_front-slot.ensures.0 c.before.before.before.before.before.before.before.before.before.before.before.before.before.before.before.before.before.before.before.before.before.before.before.before.before.before.before.before.before.before.before.before.before.before.before.before.before.before.before.before.put.ensures far2.strike.auto.marks far2.strike.ensures _ _ _ _ c.before.before.before.before.before.before.before.before.before.before.before.before.before.before.before.before.before.before.before.before.before.before.before.before.before.before.before.before.before.before.tree_of.ensures _ c.before.before.before.before.before.before.before.before.before.before.before.before.before.before.before.before.before.before.before.before.before.before.before.in-Done.is _ far3.unstrike.auto.marks far3.unstrike.ensures _ _ c.before.before.before.before.before.before.before.before.before.before.before.before.before.before.before.before.before.put-2.ensures far4.drop_having.auto.marks far4.drop_having.ensures _ _ _ _ c.before.before.before.before.before.before.before.tree_of-2.ensures c.in_default-tree_of.is, tt)
 
 test_node_unmark_requires : (t : ℕ) → test-node-lts.Need-unmark-requires (test_node_calls t) (test_node_at t) test-node.Post
 test_node_unmark_requires t c κs =
-    c.before.before.before.before.before.before.before.before.before.before.tree-of2.auto.1.1.0 ∙ c.before.before.before.before.before.before.before.before.before.before.before.before.before.before.before.before.drop-having.auto.1.1.0 ∙ c.before.before.before.before.before.before.before.before.before.before.before.before.before.before.before.before.before.before.before.before.before.before.before.before.before.unstrike.auto.0 ∙ c.before.before.before.before.before.before.before.before.before.before.before.before.before.before.before.before.before.before.before.before.before.before.before.before.before.before.before.before.before.before.before.before.before.before.before.before.tree_of.auto.1.1.0 ∙ c.before.before.before.before.before.before.before.before.before.before.before.before.before.before.before.before.before.before.before.before.before.before.before.before.before.before.before.before.before.before.before.before.before.before.before.before.before.before.before.before.before.before.strike.auto.1.1.0 ∙ c.before.before.before.before.before.before.before.before.before.before.before.before.before.before.before.before.before.before.before.before.before.before.before.before.before.before.before.before.before.before.before.before.before.before.before.before.before.before.before.before.before.before.before.before.before.before.before.before.before.before.before.before.before.before.before.before.before.before.requires.1.ready.sizes.2
+    c.before.before.before.before.before.before.before.before.tree_of-2.auto.marks ∙ c.before.before.before.before.before.before.before.before.before.before.before.before.before.before.drop_having.auto.marks ∙ c.before.before.before.before.before.before.before.before.before.before.before.before.before.before.before.before.before.before.before.before.before.before.unstrike.auto.marks ∙ c.before.before.before.before.before.before.before.before.before.before.before.before.before.before.before.before.before.before.before.before.before.before.before.before.before.before.before.before.before.before.before.tree_of.auto.marks ∙ c.before.before.before.before.before.before.before.before.before.before.before.before.before.before.before.before.before.before.before.before.before.before.before.before.before.before.before.before.before.before.before.before.before.before.before.before.before.strike.auto.marks ∙ c.before.before.before.before.before.before.before.before.before.before.before.before.before.before.before.before.before.before.before.before.before.before.before.before.before.before.before.before.before.before.before.before.before.before.before.before.before.before.before.before.before.before.before.before.before.before.before.before.before.before.before.requires.1.ready.sizes.2
 
-test_node_same_length_7 : (t : ℕ) → test-node-lts.Need-same-length-7 (test_node_calls t) (test_node_at t) test-node.Post
+test_node_same_length_7 : (t : ℕ) → test-node-lts.Need-shape_of-nums (test_node_calls t) (test_node_at t) test-node.Post
 test_node_same_length_7 t c =
-    c.before.before.before.before.before.before.before.before.before.before.before.before.before.tree-of2.auto.1.0 ∙ c.before.before.before.before.before.before.before.before.before.before.before.before.before.before.before.before.before.before.before.before.before.before.before.before.before.before.before.before.before.before.before.before.before.before.before.before.before.before.before.tree_of.auto.1.0
+    c.before.before.before.before.before.before.before.before.before.before.before.tree_of-2.auto.nums ∙ c.before.before.before.before.before.before.before.before.before.before.before.before.before.before.before.before.before.before.before.before.before.before.before.before.before.before.before.before.before.before.before.before.before.before.tree_of.auto.nums
 
-test_node_same_length_8 : (t : ℕ) → test-node-lts.Need-same-length-8 (test_node_calls t) (test_node_at t) test-node.Post
+test_node_same_length_8 : (t : ℕ) → test-node-lts.Need-shape_of-marks (test_node_calls t) (test_node_at t) test-node.Post
 test_node_same_length_8 t c =
-    c.before.before.unmark.auto.0 ∙ c.before.before.before.before.before.before.before.before.before.before.before.before.before.tree-of2.auto.1.1.0 ∙ c.before.before.before.before.before.before.before.before.before.before.before.before.before.before.before.before.before.before.before.drop-having.auto.1.1.0 ∙ c.before.before.before.before.before.before.before.before.before.before.before.before.before.before.before.before.before.before.before.before.before.before.before.before.before.before.before.before.unstrike.auto.0 ∙ c.before.before.before.before.before.before.before.before.before.before.before.before.before.before.before.before.before.before.before.before.before.before.before.before.before.before.before.before.before.before.before.before.before.before.before.before.before.before.before.tree_of.auto.1.1.0 ∙ c.before.before.before.before.before.before.before.before.before.before.before.before.before.before.before.before.before.before.before.before.before.before.before.before.before.before.before.before.before.before.before.before.before.before.before.before.before.before.before.before.before.before.before.before.before.strike.auto.1.1.0
+    c.before.before.unmark.auto.marks ∙ c.before.before.before.before.before.before.before.before.before.before.before.tree_of-2.auto.marks ∙ c.before.before.before.before.before.before.before.before.before.before.before.before.before.before.before.before.before.drop_having.auto.marks ∙ c.before.before.before.before.before.before.before.before.before.before.before.before.before.before.before.before.before.before.before.before.before.before.before.before.before.unstrike.auto.marks ∙ c.before.before.before.before.before.before.before.before.before.before.before.before.before.before.before.before.before.before.before.before.before.before.before.before.before.before.before.before.before.before.before.before.before.before.tree_of.auto.marks ∙ c.before.before.before.before.before.before.before.before.before.before.before.before.before.before.before.before.before.before.before.before.before.before.before.before.before.before.before.before.before.before.before.before.before.before.before.before.before.before.before.before.strike.auto.marks
 
-test_node_same_length_9 : (t : ℕ) → test-node-lts.Need-same-length-9 (test_node_calls t) (test_node_at t) test-node.Post
+test_node_same_length_9 : (t : ℕ) → test-node-lts.Need-shape_of-out (test_node_calls t) (test_node_at t) test-node.Post
 test_node_same_length_9 t c =
-    c.before.before.before.before.before.before.before.before.before.before.before.before.before.tree-of2.auto.1.1.1.0 ∙ c.before.before.before.before.before.before.before.before.before.before.before.before.before.before.before.before.before.before.before.before.before.before.before.before.put2.auto.0 ∙ c.before.before.before.before.before.before.before.before.before.before.before.before.before.before.before.before.before.before.before.before.before.before.before.before.before.before.before.before.before.before.before.before.before.before.before.before.before.before.before.tree_of.auto.1.1.1.0 ∙ c.before.before.before.before.before.before.before.before.before.before.before.before.before.before.before.before.before.before.before.before.before.before.before.before.before.before.before.before.before.before.before.before.before.before.before.before.before.before.before.before.before.before.before.before.before.before.before.before.before.before.put.auto.0 ∙ c.before.before.before.before.before.before.before.before.before.before.before.before.before.before.before.before.before.before.before.before.before.before.before.before.before.before.before.before.before.before.before.before.before.before.before.before.before.before.before.before.before.before.before.before.before.before.before.before.before.before.before.before.before.before.put_front.auto.1.1.0
+    c.before.before.before.before.before.before.before.before.before.before.before.tree_of-2.auto.out ∙ c.before.before.before.before.before.before.before.before.before.before.before.before.before.before.before.before.before.before.before.before.before.put-2.auto.out ∙ c.before.before.before.before.before.before.before.before.before.before.before.before.before.before.before.before.before.before.before.before.before.before.before.before.before.before.before.before.before.before.before.before.before.before.tree_of.auto.out ∙ c.before.before.before.before.before.before.before.before.before.before.before.before.before.before.before.before.before.before.before.before.before.before.before.before.before.before.before.before.before.before.before.before.before.before.before.before.before.before.before.before.before.before.before.before.put.auto.out ∙ c.before.before.before.before.before.before.before.before.before.before.before.before.before.before.before.before.before.before.before.before.before.before.before.before.before.before.before.before.before.before.before.before.before.before.before.before.before.before.before.before.before.before.before.before.before.before.before.before.put_front-slot.auto.out
 
-test_node_returns_3 : (t : ℕ) → test-node-lts.Need-returns-3 (test_node_calls t) (test_node_at t) test-node.Post
+test_node_returns_3 : (t : ℕ) → test-node-lts.Need-returns (test_node_calls t) (test_node_at t) test-node.Post
 test_node_returns_3 t c =
-    let start = c.before.before.before.before.before.before.before.before.before.before.before.before.before.before.before.before.before.before.before.before.before.before.before.before.before.before.before.before.before.before.before.before.before.before.before.before.before.before.before.before.before.before.before.before.before.before.before.before.before.before.before.before.before.before.before.before.before.before.before.before.before in
-    let far = c.before.before.before.before.before.before.before.before.before.before.before.before.before.before.before.before.before.before.before.before.before.before.before.before.before.before.before.before.before.before.before.before.before.before.before.before.before.before.before.before.before.before.before.before.before.before.before.before.before.before.before.before.before.before in
-    let far2 = c.before.before.before.before.before.before.before.before.before.before.before.before.before.before.before.before.before.before.before.before.before.before.before.before.before.before.before.before.before.before.before.before.before.before.before.before.before.before.before.before.before.before.before.before.before in
-    let far3 = c.before.before.before.before.before.before.before.before.before.before.before.before.before.before.before.before.before.before.before.before.before.before.before.before.before.before.before.before in
-    let far4 = c.before.before.before.before.before.before.before.before.before.before.before.before.before.before.before.before.before.before.before in
+    let start = c.before.before.before.before.before.before.before.before.before.before.before.before.before.before.before.before.before.before.before.before.before.before.before.before.before.before.before.before.before.before.before.before.before.before.before.before.before.before.before.before.before.before.before.before.before.before.before.before.before.before.before.before.before.before in
+    let far = c.before.before.before.before.before.before.before.before.before.before.before.before.before.before.before.before.before.before.before.before.before.before.before.before.before.before.before.before.before.before.before.before.before.before.before.before.before.before.before.before.before.before.before.before.before.before.before.before in
+    let far2 = c.before.before.before.before.before.before.before.before.before.before.before.before.before.before.before.before.before.before.before.before.before.before.before.before.before.before.before.before.before.before.before.before.before.before.before.before.before.before.before.before in
+    let far3 = c.before.before.before.before.before.before.before.before.before.before.before.before.before.before.before.before.before.before.before.before.before.before.before.before.before in
+    let far4 = c.before.before.before.before.before.before.before.before.before.before.before.before.before.before.before.before.before in
     let far5 = c.before.before in
-    let s = start.args in let p = start.requires in test_done s.fixed.now s.nums.now s.marks.now s.limit s.count s.at s.id p.1 (s.at + 17) refl s.out.now _ far.put_front.ensures.1 _ _ _ far.put_front.ensures.0 c.before.before.before.before.before.before.before.before.before.before.before.before.before.before.before.before.before.before.before.before.before.before.before.before.before.before.before.before.before.before.before.before.before.before.before.before.before.before.before.before.before.before.before.before.before.before.before.before.before.before.put.ensures far2.strike.auto.1.1.0 far2.strike.ensures _ _ _ _ c.before.before.before.before.before.before.before.before.before.before.before.before.before.before.before.before.before.before.before.before.before.before.before.before.before.before.before.before.before.before.before.before.before.before.before.before.before.before.before.tree_of.ensures _ c.before.before.before.before.before.before.before.before.before.before.before.before.before.before.before.before.before.before.before.before.before.before.before.before.before.before.before.before.before.before.before.next.given.1 _ far3.unstrike.auto.0 far3.unstrike.ensures _ _ c.before.before.before.before.before.before.before.before.before.before.before.before.before.before.before.before.before.before.before.before.before.before.before.before.put2.ensures far4.drop-having.auto.1.1.0 far4.drop-having.ensures _ _ _ _ c.before.before.before.before.before.before.before.before.before.before.before.before.before.tree-of2.ensures _ c.before.before.before.before.before.end.given.1 _ far5.unmark.auto.0 far5.unmark.ensures
+    let s = start.args in let p = start.requires in test_done s.fixed.now s.nums.now s.marks.now s.limit s.count s.at s.id p.1 (s.at + 17) refl s.out.now _ far.put_front-slot.ensures.1 _ _ _ far.put_front-slot.ensures.0 c.before.before.before.before.before.before.before.before.before.before.before.before.before.before.before.before.before.before.before.before.before.before.before.before.before.before.before.before.before.before.before.before.before.before.before.before.before.before.before.before.before.before.before.before.put.ensures far2.strike.auto.marks far2.strike.ensures _ _ _ _ c.before.before.before.before.before.before.before.before.before.before.before.before.before.before.before.before.before.before.before.before.before.before.before.before.before.before.before.before.before.before.before.before.before.before.tree_of.ensures _ c.before.before.before.before.before.before.before.before.before.before.before.before.before.before.before.before.before.before.before.before.before.before.before.before.before.before.before.in-Done.is _ far3.unstrike.auto.marks far3.unstrike.ensures _ _ c.before.before.before.before.before.before.before.before.before.before.before.before.before.before.before.before.before.before.before.before.before.put-2.ensures far4.drop_having.auto.marks far4.drop_having.ensures _ _ _ _ c.before.before.before.before.before.before.before.before.before.before.before.tree_of-2.ensures _ c.before.before.before.before.in-Done-tree_of.is _ far5.unmark.auto.marks far5.unmark.ensures
 
-tree_of_returns : (t : ℕ) → tree-of-lts.Need-returns (tree_of_calls t) (tree_of_at t) tree_of_lem.Post
+tree_of_returns : (t : ℕ) → tree-of-lts.Need-returns-then-limit-at (tree_of_calls t) (tree_of_at t) tree_of_lem.Post
 tree_of_returns t c =
     let start = c.before.before.before.before.before in
-    let s = start.args in let p = start.requires in tree_full s.fixed.now s.nums.now s.marks.now s.limit s.count s.at p.1 s.out.now c.if1.true _
+    let s = start.args in let p = start.requires in tree_full s.fixed.now s.nums.now s.marks.now s.limit s.count s.at p.1 s.out.now c.if-limit-at.true _
 
-tree_of_first_row_requires : (t : ℕ) → tree-of-lts.Need-first-row-requires (tree_of_calls t) (tree_of_at t) tree_of_lem.Post
+tree_of_first_row_requires : (t : ℕ) → tree-of-lts.Need-first_row-r-requires (tree_of_calls t) (tree_of_at t) tree_of_lem.Post
 tree_of_first_row_requires t c κs =
-    let start = c.before.before.before.before.before.before in
+    let start = c.before.before.before.before.before in
     let s = start.args in let p = start.requires in p.1.sizes.2
 
-tree_of_add_t17 : (t : ℕ) → tree-of-lts.Need-overflow-add-t17 (tree_of_calls t) (tree_of_at t) tree_of_lem.Post
+tree_of_add_t17 : (t : ℕ) → tree-of-lts.Need-overflow_add-result (tree_of_calls t) (tree_of_at t) tree_of_lem.Post
 tree_of_add_t17 t c =
-    let start = c.before.before.before.before.before.before.before.before.before.before.before.before in
-    let s = start.args in let p = start.requires in omega (arith, c.before.before.before.before.before.before.before.if1.false, p.1.within.0)
+    let start = c.before.before.before.before.before.before.before.before.before.before.before in
+    let s = start.args in let p = start.requires in omega (arith, c.before.before.before.before.before.before.if-limit-at.false, p.1.within.0)
 
-tree_of_returns_2 : (t : ℕ) → tree-of-lts.Need-returns-2 (tree_of_calls t) (tree_of_at t) tree_of_lem.Post
+tree_of_returns_2 : (t : ℕ) → tree-of-lts.Need-returns-then-r-eq-MOST_RULES_LONG (tree_of_calls t) (tree_of_at t) tree_of_lem.Post
 tree_of_returns_2 t c =
-    let start = c.before.before.before.before.before.before.before.before.before.before.before.before in
-    let s = start.args in let p = start.requires in tree_fails s.fixed.now s.nums.now s.marks.now s.limit s.count s.at p.1 s.out.now c.before.before.before.before.before.before.before.if1.false _ c.before.before.before.before.before.first_row.ensures c.before.before.before.before.if2.true _ _ c.before.before.put.ensures refl
+    let start = c.before.before.before.before.before.before.before.before.before.before.before in
+    let s = start.args in let p = start.requires in tree_fails s.fixed.now s.nums.now s.marks.now s.limit s.count s.at p.1 s.out.now c.before.before.before.before.before.before.if-limit-at.false _ c.before.before.before.before.before.first_row-r.ensures c.before.before.before.before.if-r-eq-MOST_RULES_LONG.true _ _ c.before.before.put.ensures refl
 
-tree_of_lowest_open_requires : (t : ℕ) → tree-of-lts.Need-lowest-open-requires (tree_of_calls t) (tree_of_at t) tree_of_lem.Post
+tree_of_lowest_open_requires : (t : ℕ) → tree-of-lts.Need-lowest_open-n-requires (tree_of_calls t) (tree_of_at t) tree_of_lem.Post
 tree_of_lowest_open_requires t c κs =
-    let start = c.before.before.before.before.before.before.before.before.before.before in
-    let far = c.before.before.before in
-    let s = start.args in let p = start.requires in lowest_needs s.fixed.now s.nums.now s.marks.now s.limit s.count s.at p.1 s.out.now c.before.before.before.before.before.if1.false _ far.first_row.ensures (row_few s.marks.now _ c.before.before.if2.false far.first_row.ensures)
+    let start = c.before.before.before.before.before.before.before in
+    let far = c.before in
+    let s = start.args in let p = start.requires in lowest_needs s.fixed.now s.nums.now s.marks.now s.limit s.count s.at p.1 s.out.now c.before.before.if-limit-at.false _ far.first_row-r.ensures (row_few s.marks.now _ c.if-r-eq-MOST_RULES_LONG.false far.first_row-r.ensures)
 
-tree_of_sub_switch_node : (t : ℕ) → tree-of-lts.Need-overflow-sub-switch-node (tree_of_calls t) (tree_of_at t) tree_of_lem.Post
+tree_of_sub_switch_node : (t : ℕ) → tree-of-lts.Need-overflow_sub-n (tree_of_calls t) (tree_of_at t) tree_of_lem.Post
 tree_of_sub_switch_node t c =
-    omega (arith, c.before.before.before.if3.true)
+    omega (arith, c.before.before.before.if-n-ne0.true)
 
-tree_of_switch_node_requires : (t : ℕ) → tree-of-lts.Need-switch-node-requires (tree_of_calls t) (tree_of_at t) tree_of_lem.Post
+tree_of_switch_node_requires : (t : ℕ) → tree-of-lts.Need-switch_node-requires (tree_of_calls t) (tree_of_at t) tree_of_lem.Post
 tree_of_switch_node_requires t c κs =
-    let start = c.before.before.before.before.before.before.before.before.before.before.before.before.before.before.before in
-    let far = c.before.before.before.before.before.before.before.before in
-    let s = start.args in let p = start.requires in (omega (arith, p.0), switch_needs s.fixed.now s.nums.now s.marks.now s.limit s.count s.at p.1 s.out.now c.before.before.before.before.before.before.before.before.before.before.if1.false _ far.first_row.ensures (row_few s.marks.now _ c.before.before.before.before.before.before.before.if2.false far.first_row.ensures) _ c.before.before.before.before.lowest_open.ensures c.before.before.before.if3.true)
+    let start = c.before.before.before.before.before.before.before.before.before.before.before.before in
+    let far = c.before.before.before.before.before.before in
+    let s = start.args in let p = start.requires in (omega (arith, p.0), switch_needs s.fixed.now s.nums.now s.marks.now s.limit s.count s.at p.1 s.out.now c.before.before.before.before.before.before.before.if-limit-at.false _ far.first_row-r.ensures (row_few s.marks.now _ c.before.before.before.before.before.if-r-eq-MOST_RULES_LONG.false far.first_row-r.ensures) _ c.before.before.before.before.lowest_open-n.ensures c.before.before.before.if-n-ne0.true)
 
-tree_of_same_length_3 : (t : ℕ) → tree-of-lts.Need-same-length-3 (tree_of_calls t) (tree_of_at t) tree_of_lem.Post
+tree_of_same_length_3 : (t : ℕ) → tree-of-lts.Need-shape_of-nums-then-n-ne0 (tree_of_calls t) (tree_of_at t) tree_of_lem.Post
 tree_of_same_length_3 t c =
-    c.before.before.before.before.before.before.switch-node.auto.1.0
+    c.before.before.before.before.before.before.switch_node.auto.nums
 
-tree_of_same_length_4 : (t : ℕ) → tree-of-lts.Need-same-length-4 (tree_of_calls t) (tree_of_at t) tree_of_lem.Post
+tree_of_same_length_4 : (t : ℕ) → tree-of-lts.Need-shape_of-marks-then-n-ne0 (tree_of_calls t) (tree_of_at t) tree_of_lem.Post
 tree_of_same_length_4 t c =
-    c.before.before.before.before.before.before.switch-node.auto.1.1.0
+    c.before.before.before.before.before.before.switch_node.auto.marks
 
-tree_of_same_length_5 : (t : ℕ) → tree-of-lts.Need-same-length-5 (tree_of_calls t) (tree_of_at t) tree_of_lem.Post
+tree_of_same_length_5 : (t : ℕ) → tree-of-lts.Need-shape_of-out-then-n-ne0 (tree_of_calls t) (tree_of_at t) tree_of_lem.Post
 tree_of_same_length_5 t c =
-    c.before.before.before.before.before.before.switch-node.auto.1.1.1.0
+    c.before.before.before.before.before.before.switch_node.auto.out
 
-tree_of_returns_3 : (t : ℕ) → tree-of-lts.Need-returns-3 (tree_of_calls t) (tree_of_at t) tree_of_lem.Post
+tree_of_returns_3 : (t : ℕ) → tree-of-lts.Need-returns-then-n-ne0 (tree_of_calls t) (tree_of_at t) tree_of_lem.Post
 tree_of_returns_3 t c =
-    c.before.before.before.before.before.before.switch-node.ensures
+    c.before.before.before.before.before.before.switch_node.ensures
 
-tree_of_first_constraint_requires : (t : ℕ) → tree-of-lts.Need-first-constraint-requires (tree_of_calls t) (tree_of_at t) tree_of_lem.Post
+tree_of_first_constraint_requires : (t : ℕ) → tree-of-lts.Need-first_constraint-id-requires (tree_of_calls t) (tree_of_at t) tree_of_lem.Post
 tree_of_first_constraint_requires t c κs =
-    let start = c.before.before.before.before.before.before.before.before.before.before.before.before.before in
-    let s = start.args in let p = start.requires in (p.1.sizes.0, p.1.sizes.2, row_few s.marks.now _ c.before.before.before.before.before.if2.false c.before.before.before.before.before.before.first_row.ensures)
+    let start = c.before.before.before.before.before.before.before.before.before in
+    let s = start.args in let p = start.requires in (p.1.sizes.0, p.1.sizes.2, row_few s.marks.now _ c.before.before.if-r-eq-MOST_RULES_LONG.false c.before.before.before.first_row-r.ensures)
 
-tree_of_test_node_requires : (t : ℕ) → tree-of-lts.Need-test-node-requires (tree_of_calls t) (tree_of_at t) tree_of_lem.Post
+tree_of_test_node_requires : (t : ℕ) → tree-of-lts.Need-test_node-requires (tree_of_calls t) (tree_of_at t) tree_of_lem.Post
 tree_of_test_node_requires t c κs =
-    let start = c.before.before.before.before.before.before.before.before.before.before.before.before.before.before.before.before.before.before in
-    let far = c.before.before.before.before.before.before.before.before.before.before.before in
-    let s = start.args in let p = start.requires in (omega (arith, p.0), test_needs s.fixed.now s.nums.now s.marks.now s.limit s.count s.at p.1 s.out.now c.before.before.before.before.before.before.before.before.before.before.before.before.before.if1.false _ far.first_row.ensures (row_few s.marks.now _ c.before.before.before.before.before.before.before.before.before.before.if2.false far.first_row.ensures) _ c.before.before.before.before.before.before.before.lowest_open.ensures (omega (arith, c.before.before.before.before.before.before.if3.false)) _ c.before.before.before.before.first-constraint.ensures c.before.before.before.if4.true)
+    let start = c.before.before.before.before.before.before.before.before.before.before.before.before.before.before in
+    let far = c.before.before.before.before.before.before.before.before in
+    let s = start.args in let p = start.requires in (omega (arith, p.0), test_needs s.fixed.now s.nums.now s.marks.now s.limit s.count s.at p.1 s.out.now c.before.before.before.before.before.before.before.before.before.if-limit-at.false _ far.first_row-r.ensures (row_few s.marks.now _ c.before.before.before.before.before.before.before.if-r-eq-MOST_RULES_LONG.false far.first_row-r.ensures) _ c.before.before.before.before.before.before.lowest_open-n.ensures (omega (arith, c.before.before.before.before.before.if-n-ne0.false)) _ c.before.before.before.before.first_constraint-id.ensures c.before.before.before.if-id-ne-NONE_LEFT.true)
 
-tree_of_same_length_6 : (t : ℕ) → tree-of-lts.Need-same-length-6 (tree_of_calls t) (tree_of_at t) tree_of_lem.Post
+tree_of_same_length_6 : (t : ℕ) → tree-of-lts.Need-shape_of-nums-then-id-ne-NONE_LEFT (tree_of_calls t) (tree_of_at t) tree_of_lem.Post
 tree_of_same_length_6 t c =
-    c.before.before.before.before.before.before.test-node.auto.1.0
+    c.before.before.before.before.before.before.test_node.auto.nums
 
-tree_of_same_length_7 : (t : ℕ) → tree-of-lts.Need-same-length-7 (tree_of_calls t) (tree_of_at t) tree_of_lem.Post
+tree_of_same_length_7 : (t : ℕ) → tree-of-lts.Need-shape_of-marks-then-id-ne-NONE_LEFT (tree_of_calls t) (tree_of_at t) tree_of_lem.Post
 tree_of_same_length_7 t c =
-    c.before.before.before.before.before.before.test-node.auto.1.1.0
+    c.before.before.before.before.before.before.test_node.auto.marks
 
-tree_of_same_length_8 : (t : ℕ) → tree-of-lts.Need-same-length-8 (tree_of_calls t) (tree_of_at t) tree_of_lem.Post
+tree_of_same_length_8 : (t : ℕ) → tree-of-lts.Need-shape_of-out-then-id-ne-NONE_LEFT (tree_of_calls t) (tree_of_at t) tree_of_lem.Post
 tree_of_same_length_8 t c =
-    c.before.before.before.before.before.before.test-node.auto.1.1.1.0
+    c.before.before.before.before.before.before.test_node.auto.out
 
-tree_of_returns_4 : (t : ℕ) → tree-of-lts.Need-returns-4 (tree_of_calls t) (tree_of_at t) tree_of_lem.Post
+tree_of_returns_4 : (t : ℕ) → tree-of-lts.Need-returns-then-id-ne-NONE_LEFT (tree_of_calls t) (tree_of_at t) tree_of_lem.Post
 tree_of_returns_4 t c =
-    c.before.before.before.before.before.before.test-node.ensures
+    c.before.before.before.before.before.before.test_node.ensures
 
-tree_of_put_leaf_requires : (t : ℕ) → tree-of-lts.Need-put-leaf-requires (tree_of_calls t) (tree_of_at t) tree_of_lem.Post
+tree_of_put_leaf_requires : (t : ℕ) → tree-of-lts.Need-put_leaf-requires (tree_of_calls t) (tree_of_at t) tree_of_lem.Post
 tree_of_put_leaf_requires t c κs =
-    let start = c.before.before.before.before.before.before.before.before.before.before.before.before.before.before.before.before.before.before in
-    let far = c.before.before.before.before.before.before.before.before.before.before.before in
-    let s = start.args in let p = start.requires in leaf_needs s.fixed.now s.nums.now s.marks.now s.limit s.count s.at p.1 s.out.now c.before.before.before.before.before.before.before.before.before.before.before.before.before.if1.false _ far.first_row.ensures (row_few s.marks.now _ c.before.before.before.before.before.before.before.before.before.before.if2.false far.first_row.ensures) _ c.before.before.before.before.before.before.before.lowest_open.ensures (omega (arith, c.before.before.before.before.before.before.if3.false)) _ c.before.before.before.before.first-constraint.ensures
+    let start = c.before.before.before.before.before.before.before.before.before.before.before.before in
+    let far = c.before.before.before.before.before.before in
+    let s = start.args in let p = start.requires in leaf_needs s.fixed.now s.nums.now s.marks.now s.limit s.count s.at p.1 s.out.now c.before.before.before.before.before.before.before.if-limit-at.false _ far.first_row-r.ensures (row_few s.marks.now _ c.before.before.before.before.before.if-r-eq-MOST_RULES_LONG.false far.first_row-r.ensures) _ c.before.before.before.before.lowest_open-n.ensures (omega (arith, c.before.before.before.if-n-ne0.false)) _ c.before.before.first_constraint-id.ensures
 
-tree_of_returns_5 : (t : ℕ) → tree-of-lts.Need-returns-5 (tree_of_calls t) (tree_of_at t) tree_of_lem.Post
+tree_of_returns_5 : (t : ℕ) → tree-of-lts.Need-returns (tree_of_calls t) (tree_of_at t) tree_of_lem.Post
 tree_of_returns_5 t c =
-    let start = c.before.before.before.before.before.before.before.before.before.before.before.before.before.before.before.before.before.before.before.before.before in
-    let far = c.before.before.before.before.before.before.before.before.before.before.before.before.before.before in
+    let start = c.before.before.before.before.before.before.before.before.before.before.before.before.before.before.before in
+    let far = c.before.before.before.before.before.before.before.before.before in
     let far2 = c.before.before in
-    let s = start.args in let p = start.requires in tree_leaf s.fixed.now s.nums.now s.marks.now s.limit s.count s.at p.1 s.out.now c.before.before.before.before.before.before.before.before.before.before.before.before.before.before.before.before.if1.false _ far.first_row.ensures (row_few s.marks.now _ c.before.before.before.before.before.before.before.before.before.before.before.before.before.if2.false far.first_row.ensures) _ c.before.before.before.before.before.before.before.before.before.before.lowest_open.ensures (omega (arith, c.before.before.before.before.before.before.before.before.before.if3.false)) _ c.before.before.before.before.before.before.before.first-constraint.ensures (omega (arith, c.before.before.before.before.before.before.if4.false)) _ _ far2.put-leaf.ensures.0 far2.put-leaf.ensures.1
+    let s = start.args in let p = start.requires in tree_leaf s.fixed.now s.nums.now s.marks.now s.limit s.count s.at p.1 s.out.now c.before.before.before.before.before.before.before.before.before.before.if-limit-at.false _ far.first_row-r.ensures (row_few s.marks.now _ c.before.before.before.before.before.before.before.before.if-r-eq-MOST_RULES_LONG.false far.first_row-r.ensures) _ c.before.before.before.before.before.before.before.lowest_open-n.ensures (omega (arith, c.before.before.before.before.before.before.if-n-ne0.false)) _ c.before.before.before.before.before.first_constraint-id.ensures (omega (arith, c.before.before.before.before.if-id-ne-NONE_LEFT.false)) _ _ far2.put_leaf.ensures.0 far2.put_leaf.ensures.1
 
-pub +case-tree-case-trees-switch-node-test-node-tree-of-spec : {M : Type 1} → statement M
-+case-tree-case-trees-switch-node-test-node-tree-of-spec = close μ_case_tree μ_case_trees μ_switch_node μ_test_node μ_tree_of
+pub +case_tree_case_trees_switch_node_test_node_tree_of_spec : {M : Type 1} → statement M
++case_tree_case_trees_switch_node_test_node_tree_of_spec = close μ_case_tree μ_case_trees μ_switch_node μ_test_node μ_tree_of
     (λ t. case-tree-lts.spec (case_tree_calls t) (case_tree_at t) case-tree.Post
     (case_tree_drop_others_requires t)
     (case_tree_number_rows_requires t)
@@ -679,7 +679,7 @@ pub +case-tree-case-trees-switch-node-test-node-tree-of-spec : {M : Type 1} → 
     (case_tree_same_length_5 t)
     (case_tree_same_length_6 t)
     (case_tree_returns_2 t))
-    (λ t. case-trees-lts.spec (case_trees_calls t) (case_trees_at t) case-trees.Post invariant-loop decreases-loop
+    (λ t. case-trees-lts.spec (case_trees_calls t) (case_trees_at t) case-trees.Post invariant-loop-r decreases-loop-r
     (case_trees_loop_holds t)
     (case_trees_new_head_requires t)
     (λ c. omega arith)

@@ -6,20 +6,20 @@ use Rattle.compiler.proofs.NumberLaws.{next_over, next_in}
 use Rattle.compiler.proofs.numbers.next_child.Statement.{statement}
 use Rattle.compiler.proofs.numbers.next_child.Tie as tie
 
-returns : tie.Need-returns
+returns : tie.Need-returns-then-to-child
 returns c =
     let start = c.before.before.before.before in
-    next_over start.args.fixed.now start.args.child start.args.to _ c.before.part_end.ensures c.if1.true
+    next_over start.args.fixed.now start.args.child start.args.to _ c.before.part_end-words.ensures c.if-to-child.true
 
-add_result : tie.Need-overflow-add-result
+add_result : tie.Need-overflow_add-result
 add_result c =
     let start = c.before.before.before.before in
-    omega (arith, start.requires.1, start.requires.2, c.if1.false)
+    omega (arith, start.requires.1, start.requires.2, c.if-to-child.false)
 
-returns_2 : tie.Need-returns-2
+returns_2 : tie.Need-returns
 returns_2 c =
     let start = c.before.before.before.before in
-    next_in start.args.fixed.now start.args.child start.args.to _ c.before.part_end.ensures c.if1.false
+    next_in start.args.fixed.now start.args.child start.args.to _ c.before.part_end-words.ensures c.if-to-child.false
 
 pub next_child_spec : {M : Type 1} → statement M
 next_child_spec =

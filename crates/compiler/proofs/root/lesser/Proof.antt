@@ -5,14 +5,14 @@ use Rattle.compiler.proofs.RootTables.{lesser_taken, lesser_more, lesser_not}
 use Rattle.compiler.proofs.root.lesser.Statement.{statement}
 use Rattle.compiler.proofs.root.lesser.Tie as tie
 
-returns : tie.Need-returns
-returns c = lesser_taken _ _ _ _ c.before.before.before.count_of.ensures (sym c.before.before.has-symbol.ensures ∙ c.before.if1.true) c.if2.true
+returns : tie.Need-returns-then-count-best
+returns c = lesser_taken _ _ _ _ c.before.before.before.count_of-count.ensures (sym c.before.before.has_symbol.ensures ∙ c.before.if-has_symbol.true) c.if-count-best.true
 
-returns_2 : tie.Need-returns-2
-returns_2 c = lesser_more _ _ _ _ c.before.before.before.count_of.ensures (sym c.before.before.has-symbol.ensures ∙ c.before.if1.true) c.if2.false
+returns_2 : tie.Need-returns-else-count-best
+returns_2 c = lesser_more _ _ _ _ c.before.before.before.count_of-count.ensures (sym c.before.before.has_symbol.ensures ∙ c.before.if-has_symbol.true) c.if-count-best.false
 
-returns_3 : tie.Need-returns-3
-returns_3 c = lesser_not _ _ _ (sym c.before.has-symbol.ensures ∙ c.if1.false)
+returns_3 : tie.Need-returns-else-has_symbol
+returns_3 c = lesser_not _ _ _ (sym c.before.has_symbol.ensures ∙ c.if-has_symbol.false)
 
 pub lesser_spec : {M : Type 1} → statement M
 lesser_spec =

@@ -6,65 +6,65 @@ use Rattle.compiler.proofs.RootTrees.{roots_most, root_fails, cases_needs, root_
 use Rattle.compiler.proofs.root.root_tree.Statement.{statement}
 use Rattle.compiler.proofs.root.root_tree.Tie as tie
 
-first_row_requires : tie.Need-first-row-requires
-first_row_requires c κs = c.before.before.before.before.before.requires.sizes.2
+first_row_requires : tie.Need-first_row-requires
+first_row_requires c κs = c.before.before.before.before.requires.sizes.2
 
-returns : tie.Need-returns
+returns : tie.Need-returns-then-first_row-eq-MOST_RULES_LONG
 returns c =
-    let start = c.before.before.before.before.before.before.before.before.before.before.before in
+    let start = c.before.before.before.before.before.before.before.before.before.before in
     let s = start.args in
-    root_fails s.fixed.now s.nums.now s.marks.now s.limit start.requires s.out.now _ c.before.before.before.before.before.first_row.ensures c.before.before.before.before.if1.true _ c.before.before.put.ensures
+    root_fails s.fixed.now s.nums.now s.marks.now s.limit start.requires s.out.now _ c.before.before.before.before.before.first_row.ensures c.before.before.before.before.if-first_row-eq-MOST_RULES_LONG.true _ c.before.before.put.ensures
 
-count_roots_requires : tie.Need-count-roots-requires
-count_roots_requires c κs = let p = c.before.before.before.before.before.before.before.before.requires in (p.sizes.0, p.sizes.2)
+count_roots_requires : tie.Need-count_roots-cases-requires
+count_roots_requires c κs = let p = c.before.before.before.before.before.before.requires in (p.sizes.0, p.sizes.2)
 
-mul_first : tie.Need-overflow-mul-first
-mul_first c = let s = c.before.before.before.before.before.before.before.before.before.before.before.before.before.before.before.before.before.before.before.before.before.args in omega (arith, c.before.before.before.before.before.before.before.before.before.before.before.before.count-roots.ensures, roots_most s.fixed.now s.marks.now)
+mul_first : tie.Need-overflow_mul-first
+mul_first c = let s = c.before.before.before.before.before.before.before.before.before.before.before.before.before.before.before.before.before.before.before.args in omega (arith, c.before.before.before.before.before.before.before.before.before.before.before.before.count_roots-cases.ensures, roots_most s.fixed.now s.marks.now)
 
-add_first : tie.Need-overflow-add-first
-add_first c = let s = c.before.before.before.before.before.before.before.before.before.before.before.before.before.before.before.before.before.before.before.before.before.args in omega (arith, c.before.before.before.before.before.before.before.before.before.before.before.before.count-roots.ensures, roots_most s.fixed.now s.marks.now)
+add_first : tie.Need-overflow_add-first
+add_first c = let s = c.before.before.before.before.before.before.before.before.before.before.before.before.before.before.before.before.before.before.before.args in omega (arith, c.before.before.before.before.before.before.before.before.before.before.before.before.count_roots-cases.ensures, roots_most s.fixed.now s.marks.now)
 
-root_cases_requires : tie.Need-root-cases-requires
+root_cases_requires : tie.Need-root_cases-requires
 root_cases_requires c κs =
-    let start = c.before.before.before.before.before.before.before.before.before.before.before.before.before.before.before.before.before.before.before.before.before.before.before.before in
+    let start = c.before.before.before.before.before.before.before.before.before.before.before.before.before.before.before.before.before.before.before.before.before.before in
     let s = start.args in
-    cases_needs s.fixed.now s.nums.now s.marks.now s.limit start.requires s.out.now _ c.before.before.before.before.before.before.before.before.before.before.before.before.before.before.before.before.before.before.first_row.ensures c.before.before.before.before.before.before.before.before.before.before.before.before.before.before.before.before.before.if1.false _ c.before.before.before.before.before.before.before.before.before.before.before.before.before.before.before.count-roots.ensures
+    cases_needs s.fixed.now s.nums.now s.marks.now s.limit start.requires s.out.now _ c.before.before.before.before.before.before.before.before.before.before.before.before.before.before.before.before.before.first_row.ensures c.before.before.before.before.before.before.before.before.before.before.before.before.before.before.before.before.if-first_row-eq-MOST_RULES_LONG.false _ c.before.before.before.before.before.before.before.before.before.before.before.before.before.before.before.count_roots-cases.ensures
 
-same_length_3 : tie.Need-same-length-3
-same_length_3 c = c.before.before.before.before.before.before.before.before.root_cases.auto.1.0
+same_length_3 : tie.Need-shape_of-nums-in_default
+same_length_3 c = c.before.before.before.before.before.before.before.root_cases.auto.nums
 
-same_length_4 : tie.Need-same-length-4
-same_length_4 c = c.before.before.before.before.before.before.before.before.root_cases.auto.1.1.0
+same_length_4 : tie.Need-shape_of-marks-in_default
+same_length_4 c = c.before.before.before.before.before.before.before.root_cases.auto.marks
 
-same_length_5 : tie.Need-same-length-5
-same_length_5 c = c.before.before.before.before.before.before.before.before.root_cases.auto.1.1.1.0 ∙ c.before.before.before.before.before.before.before.before.before.before.before.before.before.before.put4.auto.0 ∙ c.before.before.before.before.before.before.before.before.before.before.before.before.before.before.before.before.before.before.put3.auto.0 ∙ c.before.before.before.before.before.before.before.before.before.before.before.before.before.before.before.before.before.before.before.before.before.before.put2.auto.0
+same_length_5 : tie.Need-shape_of-out-in_default
+same_length_5 c = c.before.before.before.before.before.before.before.root_cases.auto.out ∙ c.before.before.before.before.before.before.before.before.before.before.before.before.before.put-4.auto.out ∙ c.before.before.before.before.before.before.before.before.before.before.before.before.before.before.before.before.before.put-3.auto.out ∙ c.before.before.before.before.before.before.before.before.before.before.before.before.before.before.before.before.before.before.before.before.before.put-2.auto.out
 
-returns_2 : tie.Need-returns-2
+returns_2 : tie.Need-returns-in_default
 returns_2 c =
-    let start = c.before.before.before.before.before.before.before.before.before.before.before.before.before.before.before.before.before.before.before.before.before.before.before.before.before.before.before.before.before.before.before.before.before in
+    let start = c.before.before.before.before.before.before.before.before.before.before.before.before.before.before.before.before.before.before.before.before.before.before.before.before.before.before.before.before.before.before in
     let s = start.args in
-    root_cases_over s.fixed.now s.nums.now s.marks.now s.limit start.requires s.out.now _ c.before.before.before.before.before.before.before.before.before.before.before.before.before.before.before.before.before.before.before.before.before.before.before.before.before.before.before.first_row.ensures c.before.before.before.before.before.before.before.before.before.before.before.before.before.before.before.before.before.before.before.before.before.before.before.before.before.before.if1.false _ c.before.before.before.before.before.before.before.before.before.before.before.before.before.before.before.before.before.before.before.before.before.before.before.before.count-roots.ensures _ _ _ _ _ _ c.before.before.before.before.before.before.before.before.before.before.before.before.before.before.before.before.before.before.before.before.before.before.put2.ensures c.before.before.before.before.before.before.before.before.before.before.before.before.before.before.before.before.before.before.put3.ensures c.before.before.before.before.before.before.before.before.before.before.before.before.before.before.put4.ensures _ c.before.before.before.before.before.before.before.before.root_cases.ensures c.enum_told.given.1
+    root_cases_over s.fixed.now s.nums.now s.marks.now s.limit start.requires s.out.now _ c.before.before.before.before.before.before.before.before.before.before.before.before.before.before.before.before.before.before.before.before.before.before.before.before.before.first_row.ensures c.before.before.before.before.before.before.before.before.before.before.before.before.before.before.before.before.before.before.before.before.before.before.before.before.if-first_row-eq-MOST_RULES_LONG.false _ c.before.before.before.before.before.before.before.before.before.before.before.before.before.before.before.before.before.before.before.before.before.before.before.count_roots-cases.ensures _ _ _ _ _ _ c.before.before.before.before.before.before.before.before.before.before.before.before.before.before.before.before.before.before.before.before.before.put-2.ensures c.before.before.before.before.before.before.before.before.before.before.before.before.before.before.before.before.before.put-3.ensures c.before.before.before.before.before.before.before.before.before.before.before.before.before.put-4.ensures _ c.before.before.before.before.before.before.before.root_cases.ensures c.in_default.is
 
-add_t25 : tie.Need-overflow-add-t25
+add_t25 : tie.Need-overflow_add-result
 add_t25 c =
-    let start = c.before.before.before.before.before.before.before.before.before.before.before.before.before.before.before.before.before.before.before.before.before.before.before.before.before.before.before.before.before.before.before.before.before.before.before.before.before.before in
+    let start = c.before.before.before.before.before.before.before.before.before.before.before.before.before.before.before.before.before.before.before.before.before.before.before.before.before.before.before.before.before.before.before.before.before.before in
     let s = start.args in
-    omega (arith, next_most s.fixed.now s.nums.now s.marks.now s.limit start.requires s.out.now _ c.before.before.before.before.before.before.before.before.before.before.before.before.before.before.before.before.before.before.before.before.before.before.before.before.before.before.before.before.before.before.before.before.first_row.ensures c.before.before.before.before.before.before.before.before.before.before.before.before.before.before.before.before.before.before.before.before.before.before.before.before.before.before.before.before.before.before.before.if1.false _ c.before.before.before.before.before.before.before.before.before.before.before.before.before.before.before.before.before.before.before.before.before.before.before.before.before.before.before.before.before.count-roots.ensures _ _ _ _ _ _ c.before.before.before.before.before.before.before.before.before.before.before.before.before.before.before.before.before.before.before.before.before.before.before.before.before.before.before.put2.ensures c.before.before.before.before.before.before.before.before.before.before.before.before.before.before.before.before.before.before.before.before.before.before.before.put3.ensures c.before.before.before.before.before.before.before.before.before.before.before.before.before.before.before.before.before.before.before.put4.ensures _ c.before.before.before.before.before.before.before.before.before.before.before.before.before.root_cases.ensures _ c.before.before.before.before.before.next.given.1)
+    omega (arith, next_most s.fixed.now s.nums.now s.marks.now s.limit start.requires s.out.now _ c.before.before.before.before.before.before.before.before.before.before.before.before.before.before.before.before.before.before.before.before.before.before.before.before.before.before.before.before.before.first_row.ensures c.before.before.before.before.before.before.before.before.before.before.before.before.before.before.before.before.before.before.before.before.before.before.before.before.before.before.before.before.if-first_row-eq-MOST_RULES_LONG.false _ c.before.before.before.before.before.before.before.before.before.before.before.before.before.before.before.before.before.before.before.before.before.before.before.before.before.before.before.count_roots-cases.ensures _ _ _ _ _ _ c.before.before.before.before.before.before.before.before.before.before.before.before.before.before.before.before.before.before.before.before.before.before.before.before.before.put-2.ensures c.before.before.before.before.before.before.before.before.before.before.before.before.before.before.before.before.before.before.before.before.before.put-3.ensures c.before.before.before.before.before.before.before.before.before.before.before.before.before.before.before.before.before.put-4.ensures _ c.before.before.before.before.before.before.before.before.before.before.before.root_cases.ensures _ c.before.before.before.before.in-Done.is)
 
-same_length_6 : tie.Need-same-length-6
-same_length_6 c = c.before.before.before.before.before.before.before.before.before.before.before.before.before.root_cases.auto.1.0
+same_length_6 : tie.Need-shape_of-nums
+same_length_6 c = c.before.before.before.before.before.before.before.before.before.before.before.root_cases.auto.nums
 
-same_length_7 : tie.Need-same-length-7
-same_length_7 c = c.before.before.before.before.before.before.before.before.before.before.before.before.before.root_cases.auto.1.1.0
+same_length_7 : tie.Need-shape_of-marks
+same_length_7 c = c.before.before.before.before.before.before.before.before.before.before.before.root_cases.auto.marks
 
-same_length_8 : tie.Need-same-length-8
-same_length_8 c = c.before.before.put5.auto.0 ∙ c.before.before.before.before.before.before.before.before.before.before.before.before.before.root_cases.auto.1.1.1.0 ∙ c.before.before.before.before.before.before.before.before.before.before.before.before.before.before.before.before.before.before.before.put4.auto.0 ∙ c.before.before.before.before.before.before.before.before.before.before.before.before.before.before.before.before.before.before.before.before.before.before.before.put3.auto.0 ∙ c.before.before.before.before.before.before.before.before.before.before.before.before.before.before.before.before.before.before.before.before.before.before.before.before.before.before.before.put2.auto.0
+same_length_8 : tie.Need-shape_of-out
+same_length_8 c = c.before.before.put-5.auto.out ∙ c.before.before.before.before.before.before.before.before.before.before.before.root_cases.auto.out ∙ c.before.before.before.before.before.before.before.before.before.before.before.before.before.before.before.before.before.put-4.auto.out ∙ c.before.before.before.before.before.before.before.before.before.before.before.before.before.before.before.before.before.before.before.before.before.put-3.auto.out ∙ c.before.before.before.before.before.before.before.before.before.before.before.before.before.before.before.before.before.before.before.before.before.before.before.before.before.put-2.auto.out
 
-returns_3 : tie.Need-returns-3
+returns_3 : tie.Need-returns
 returns_3 c =
-    let start = c.before.before.before.before.before.before.before.before.before.before.before.before.before.before.before.before.before.before.before.before.before.before.before.before.before.before.before.before.before.before.before.before.before.before.before.before.before.before in
+    let start = c.before.before.before.before.before.before.before.before.before.before.before.before.before.before.before.before.before.before.before.before.before.before.before.before.before.before.before.before.before.before.before.before.before.before in
     let s = start.args in
-    root_done s.fixed.now s.nums.now s.marks.now s.limit start.requires s.out.now _ c.before.before.before.before.before.before.before.before.before.before.before.before.before.before.before.before.before.before.before.before.before.before.before.before.before.before.before.before.before.before.before.before.first_row.ensures c.before.before.before.before.before.before.before.before.before.before.before.before.before.before.before.before.before.before.before.before.before.before.before.before.before.before.before.before.before.before.before.if1.false _ c.before.before.before.before.before.before.before.before.before.before.before.before.before.before.before.before.before.before.before.before.before.before.before.before.before.before.before.before.before.count-roots.ensures _ _ _ _ _ _ c.before.before.before.before.before.before.before.before.before.before.before.before.before.before.before.before.before.before.before.before.before.before.before.before.before.before.before.put2.ensures c.before.before.before.before.before.before.before.before.before.before.before.before.before.before.before.before.before.before.before.before.before.before.before.put3.ensures c.before.before.before.before.before.before.before.before.before.before.before.before.before.before.before.before.before.before.before.put4.ensures _ c.before.before.before.before.before.before.before.before.before.before.before.before.before.root_cases.ensures _ c.before.before.before.before.before.next.given.1 _ _ c.before.before.put5.ensures refl
+    root_done s.fixed.now s.nums.now s.marks.now s.limit start.requires s.out.now _ c.before.before.before.before.before.before.before.before.before.before.before.before.before.before.before.before.before.before.before.before.before.before.before.before.before.before.before.before.before.first_row.ensures c.before.before.before.before.before.before.before.before.before.before.before.before.before.before.before.before.before.before.before.before.before.before.before.before.before.before.before.before.if-first_row-eq-MOST_RULES_LONG.false _ c.before.before.before.before.before.before.before.before.before.before.before.before.before.before.before.before.before.before.before.before.before.before.before.before.before.before.before.count_roots-cases.ensures _ _ _ _ _ _ c.before.before.before.before.before.before.before.before.before.before.before.before.before.before.before.before.before.before.before.before.before.before.before.before.before.put-2.ensures c.before.before.before.before.before.before.before.before.before.before.before.before.before.before.before.before.before.before.before.before.before.put-3.ensures c.before.before.before.before.before.before.before.before.before.before.before.before.before.before.before.before.before.put-4.ensures _ c.before.before.before.before.before.before.before.before.before.before.before.root_cases.ensures _ c.before.before.before.before.in-Done.is _ _ c.before.before.put-5.ensures refl
 
 pub root_tree_spec : {M : Type 1} → statement M
 root_tree_spec =

@@ -6,31 +6,31 @@ use Rattle.compiler.proofs.RootTables.{root_struck, root_seen, root_counted, roo
 use Rattle.compiler.proofs.root.root_word.Statement.{statement}
 use Rattle.compiler.proofs.root.root_word.Tie as tie
 
-returns : tie.Need-returns
+returns : tie.Need-returns-then-marks-r-ne-FREE
 returns c =
     let s = c.before.before.before.before.args in
-    root_struck s.fixed.now s.marks.now s.k c.if1.true
+    root_struck s.fixed.now s.marks.now s.k c.if-marks-r-ne-FREE.true
 
-is_first_requires : tie.Need-is-first-requires
+is_first_requires : tie.Need-is_first-requires
 is_first_requires c κs = let p = c.before.before.before.before.before.before.requires in (p.0, p.1, omega (arith, p.2))
 
-add_result : tie.Need-overflow-add-result
-add_result c = omega (arith, c.before.before.before.before.id-of.ensures)
+add_result : tie.Need-overflow_add-result
+add_result c = omega (arith, c.before.before.before.before.id_of-i.ensures)
 
-returns_2 : tie.Need-returns-2
+returns_2 : tie.Need-returns-then-smallest_count-count
 returns_2 c =
     let s = c.before.before.before.before.before.before.before.before.before.before.args in
-    root_counted s.fixed.now s.marks.now s.k c.before.before.before.before.before.before.if1.false _ c.before.before.before.before.id-of.ensures (sym c.before.before.before.is-first.ensures ∙ c.before.before.if2.true) _ c.before.smallest-count.ensures c.if3.true
+    root_counted s.fixed.now s.marks.now s.k c.before.before.before.before.before.before.if-marks-r-ne-FREE.false _ c.before.before.before.before.id_of-i.ensures (sym c.before.before.before.is_first.ensures ∙ c.before.before.if-is_first.true) _ c.before.smallest_count.ensures c.if-smallest_count-count.true
 
-returns_3 : tie.Need-returns-3
+returns_3 : tie.Need-returns-else-smallest_count-count
 returns_3 c =
     let s = c.before.before.before.before.before.before.before.before.before.before.args in
-    root_fewer s.fixed.now s.marks.now s.k c.before.before.before.before.before.before.if1.false _ c.before.before.before.before.id-of.ensures (sym c.before.before.before.is-first.ensures ∙ c.before.before.if2.true) _ c.before.smallest-count.ensures c.if3.false
+    root_fewer s.fixed.now s.marks.now s.k c.before.before.before.before.before.before.if-marks-r-ne-FREE.false _ c.before.before.before.before.id_of-i.ensures (sym c.before.before.before.is_first.ensures ∙ c.before.before.if-is_first.true) _ c.before.smallest_count.ensures c.if-smallest_count-count.false
 
-returns_4 : tie.Need-returns-4
+returns_4 : tie.Need-returns-else-is_first
 returns_4 c =
     let s = c.before.before.before.before.before.before.before.before.args in
-    root_seen s.fixed.now s.marks.now s.k c.before.before.before.before.if1.false _ c.before.before.id-of.ensures (sym c.before.is-first.ensures ∙ c.if2.false)
+    root_seen s.fixed.now s.marks.now s.k c.before.before.before.before.if-marks-r-ne-FREE.false _ c.before.before.id_of-i.ensures (sym c.before.is_first.ensures ∙ c.if-is_first.false)
 
 pub root_word_spec : {M : Type 1} → statement M
 root_word_spec =

@@ -6,21 +6,21 @@ use Rattle.compiler.proofs.TableLaws.{struck_stays, struck_now, struck_not}
 use Rattle.compiler.proofs.root.uncovered_mark.Statement.{statement}
 use Rattle.compiler.proofs.root.uncovered_mark.Tie as tie
 
-returns : tie.Need-returns
+returns : tie.Need-returns-then-marks-r-ne-FREE
 returns c =
     let s = c.before.before.before.before.before.args in
-    struck_stays (leaves_out s.fixed.now s.w) 17 s.r _ c.before.if1.true
+    struck_stays (leaves_out s.fixed.now s.w) 17 s.r _ c.before.if-marks-r-ne-FREE.true
 
-returns_2 : tie.Need-returns-2
+returns_2 : tie.Need-returns-then-leaves_out
 returns_2 c =
     let start = c.before.before.before.before.before.before in
     let s = start.args in
-    struck_now (leaves_out s.fixed.now s.w) 17 s.r _ start.requires.2 c.before.before.if1.false (sym c.before.leaves-out.ensures ∙ c.if2.true)
+    struck_now (leaves_out s.fixed.now s.w) 17 s.r _ start.requires.2 c.before.before.if-marks-r-ne-FREE.false (sym c.before.leaves_out.ensures ∙ c.if-leaves_out.true)
 
-returns_3 : tie.Need-returns-3
+returns_3 : tie.Need-returns
 returns_3 c =
     let s = c.before.before.before.before.before.before.before.args in
-    struck_not (leaves_out s.fixed.now s.w) 17 s.r _ c.before.before.before.if1.false (sym c.before.before.leaves-out.ensures ∙ c.before.if2.false)
+    struck_not (leaves_out s.fixed.now s.w) 17 s.r _ c.before.before.before.if-marks-r-ne-FREE.false (sym c.before.before.leaves_out.ensures ∙ c.before.if-leaves_out.false)
 
 pub uncovered_mark_spec : {M : Type 1} → statement M
 uncovered_mark_spec =
