@@ -1,7 +1,7 @@
 -- Entering a place: its children stand one after the other, each is appended where the one before it ends, and no more words are uncovered than the place had.
 use mathlib.Core.Path.{◌≡◌, refl, sym, ap, ◌∙◌}
 use mathlib.Core.Bool.{Bool, true, false}
-use mathlib.Core.List.{List, [], ◌∷◌, ◌++◌, append_assoc, append_nil}
+use mathlib.Core.List.{List, [], ◌∷◌, ◌++◌, append_assoc, append-nil}
 use Prim.Native.Nat.{ℕ, suc, ◌+◌, ◌-◌, ◌≤◌, ◌<◌}
 use native.Mathlib.Omega.{arith}
 use native.Mathlib.Numerals.{add-one}
@@ -51,11 +51,11 @@ stands_first term from h kids rest after f k n e =
       low = rw (nesting_node h kids nothing, nesting_nothing) (omega (arith, rw (nesting_node h kids rest) at n));
       wide = rw (width_node h kids nothing, width_nothing);
       same =
-          e ∙ rw (words_node h kids rest, words_node h kids nothing, words_nothing, append_nil (words kids)) (ap (word h ∷◌) (append_assoc (words kids) (words rest) after));
+          e ∙ rw (words_node h kids rest, words_node h kids nothing, words_nothing, append-nil (words kids)) (ap (word h ∷◌) (append_assoc (words kids) (words rest) after));
     }
 
 first_long : (h : Head) (kids rest : Row) → words (node h kids rest) ≡ words (node h kids nothing) ++ words rest
-first_long h kids rest = rw (words_node h kids rest, words_node h kids nothing, words_nothing, append_nil (words kids))
+first_long h kids rest = rw (words_node h kids rest, words_node h kids nothing, words_nothing, append-nil (words kids))
 
 some_words : (h : Head) (kids rest : Row) → 1 ≤ length (words (node h kids rest))
 some_words h kids rest = rw (words_node h kids rest) (omega arith)
@@ -248,7 +248,7 @@ module _ (term : List ℕ) (s : Walk) (p : Parted term) (h : Holds term s) (n : 
   opened_as : (f : Row) (after : List ℕ) → Stands 64 1 (drop at_offset term) 0 f after → (part_of n held).part ≡ f → (g : Head) (kids : Row) → f ≡ node g kids nothing → Opened
   opened_as f after st is g kids e =
       let u : Stands 64 1 (drop at_offset term) 0 (node g kids nothing) after = rw e at st in
-      let v : drop at_offset term ≡ word g ∷ (words kids ++ after) = u.same ∙ rw (words_node g kids nothing, words_nothing, append_nil (words kids)) in
+      let v : drop at_offset term ≡ word g ∷ (words kids ++ after) = u.same ∙ rw (words_node g kids nothing, words_nothing, append-nil (words kids)) in
       let d : get_or term at_offset 0 ∷ drop (suc at_offset) term ≡ word g ∷ (words kids ++ after) = sym (drop-cons term at_offset 0 enter_offset) ∙ v in
       let z : at_offset + 1 ≡ suc at_offset = omega arith in
       record {
@@ -344,7 +344,7 @@ module _ (term : List ℕ) (s : Walk) (p : Parted term) (h : Holds term s) (n : 
 
     pub entering_places : places_from (place_in term offsets depths entered) 0 count ≡ enter_part n held
     entering_places =
-        sym (append_nil (places_from (place_in term offsets depths entered) 0 count))
+        sym (append-nil (places_from (place_in term offsets depths entered) 0 count))
         ∙ ap (λ (l : List PartAt). places_from (place_in term offsets depths entered) 0 count ++ l) (sym none_left) ∙ e.told
 
     pub entering_told : (at stands visits : ℕ) → stands ≡ s.stands → visits ≡ s.visits

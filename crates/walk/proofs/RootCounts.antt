@@ -1,7 +1,7 @@
 -- What the first word of a term or of a left side counts is how many arguments its root has: a word counts what its head does.
 use mathlib.Core.Path.{◌≡◌, sym, ap, ◌∙◌}
 use mathlib.Core.Bool.{true}
-use mathlib.Core.List.{List, [], ◌∷◌, ◌++◌, append_nil}
+use mathlib.Core.List.{List, [], ◌∷◌, ◌++◌, append-nil}
 use mathlib.Core.Option.{some}
 use Prim.Native.Nat.{ℕ, ◌-◌, ◌<◌}
 use native.Mathlib.Omega.{arith}
@@ -54,7 +54,7 @@ pub left_counts : (book : List ℕ) → check_book book ≡ Good → (number : �
 left_counts book accepted number rule e =
     let f = book_rule book number rule accepted e in
     let i = f.left_tree in
-    let c = first_counts i.tree i.formed i.one [] rule.left (i.same ∙ sym (append_nil (words i.tree))) in
+    let c = first_counts i.tree i.formed i.one [] rule.left (i.same ∙ sym (append-nil (words i.tree))) in
     c.3 ∙ sym (ap root_arguments (left_in_lem rule i ∙ ap left_of c.2) ∙ symbol_counts c.0 c.1 (rw c.2 at f.left_root))
 
 -- where a Leaf fits an accepted book, it holds what the root has more than the left side of its rule

@@ -18,7 +18,7 @@ const NONE: u32 = 0;
 const NO_VISITS: u64 = 0;
 
 // The answer, the rule that was found, how many arguments are set aside, and how many nodes the walk visited.
-#[derive(Drop)]
+#[derive(Clone, Copy)]
 pub struct TreeMatch {
     pub answer: Answer,
     pub rule: u32,

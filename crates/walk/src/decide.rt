@@ -12,7 +12,7 @@ use tree::node::{CLOSED, FAIL, LEAF, SAME, SWITCH};
 const SAME_WORDS: usize = 4;
 
 // The walk enters the place of a number and goes on at an address, only goes on there, or ends and stands so.
-#[derive(Drop)]
+#[derive(Clone, Copy)]
 pub enum Decision {
     Enter(usize, usize),
     Go(usize),

@@ -1,4 +1,6 @@
 // Walking a tree in words: document 01's "Walking".
+#![tactic(auto)]
+
 pub mod by_tree;
 mod decide;
 mod leaf;

@@ -33,7 +33,7 @@ pub const NODE_WORDS: usize = 3;
 pub const LEAF_WORDS: usize = 4;
 
 // For each uncovered place the offset of its part in the term, the abstractions passed, and whether it was entered; and the nodes visited.
-#[derive(Drop)]
+#[derive(Clone, Copy)]
 pub struct Walk {
     pub offsets: [u16; PLACES],
     pub depths: [u8; PLACES],

@@ -8,7 +8,7 @@ use term::part::{is_closed, same_body};
 // A case has so many words: a head word and an address.
 pub const CASE_WORDS: usize = 2;
 
-#[derive(Drop)]
+#[derive(Clone, Copy)]
 pub enum Taken {
     To(u32),
     Not,

@@ -12,7 +12,7 @@ use book::variables::counted_in;
 use tree::node::{FAIL, MOST_TREE, SWITCH};
 
 // The rule that the walk found, or why there is none.
-#[derive(Drop)]
+#[derive(Clone, Copy)]
 pub enum BookMatch {
     None,
     Rule(u32),
@@ -20,7 +20,7 @@ pub enum BookMatch {
 }
 
 // What the walk found, and how many nodes it visited.
-#[derive(Drop)]
+#[derive(Clone, Copy)]
 pub struct BookWalk {
     pub found: BookMatch,
     pub visits: u32,

@@ -7,68 +7,68 @@ use Rattle.walk.proofs.Judged.{switch_cut, switch_uncovered, switch_past, switch
 use Rattle.walk.proofs.decide.decide_switch.Statement.{statement}
 use Rattle.walk.proofs.decide.decide_switch.Tie as tie
 
-returns : tie.Need-returns
+returns : tie.Need-returns-then-tree-at-lt-NODE_WORDS
 returns c =
     let start = c.before.before.before.before.before in
     let s = start.args in
-    λ depths h. switch_cut s.tree.now s.term.now (seen s.offsets.now depths s.entered.now s.count s.at) start.requires.0 h start.requires.2 c.if1.true
+    λ depths h. switch_cut s.tree.now s.term.now (seen s.offsets.now depths s.entered.now s.count s.at) start.requires.0 h start.requires.2 c.if-tree-at-lt-NODE_WORDS.true
 
-cast_n : tie.Need-overflow-cast-n
+cast_n : tie.Need-overflow_cast-n
 cast_n c =
     let start = c.before.before.before.before.before.before in
     let s = start.args in
-    omega (arith, c.shared-slice-known5.given (s.at + 1))
+    omega (arith, c.shared_slice_known-5-1.given (s.at + 1))
 
-cast_cases : tie.Need-overflow-cast-cases
+cast_cases : tie.Need-overflow_cast-cases
 cast_cases c =
     let start = c.before.before.before.before.before.before.before in
     let s = start.args in
-    omega (arith, c.shared-slice-known6.given (s.at + 2))
+    omega (arith, c.shared_slice_known-6-1.given (s.at + 2))
 
-returns_2 : tie.Need-returns-2
+returns_2 : tie.Need-returns-then-count-n
 returns_2 c =
     let start = c.before.before.before.before.before.before.before.before in
     let s = start.args in
-    λ depths h. switch_uncovered s.tree.now s.term.now (seen s.offsets.now depths s.entered.now s.count s.at) start.requires.0 h (omega (arith, c.before.before.before.if1.false)) c.if2.true
+    λ depths h. switch_uncovered s.tree.now s.term.now (seen s.offsets.now depths s.entered.now s.count s.at) start.requires.0 h (omega (arith, c.before.before.before.if-tree-at-lt-NODE_WORDS.false)) c.if-count-n.true
 
-mul_if3 : tie.Need-overflow-mul-if3
+mul_if3 : tie.Need-overflow_mul-cases
 mul_if3 c =
     let start = c.before.before.before.before.before.before.before.before in
     let s = start.args in
-    omega (arith, c.before.shared-slice-known6.given (s.at + 2))
+    omega (arith, c.before.shared_slice_known-6-1.given (s.at + 2))
 
-returns_3 : tie.Need-returns-3
+returns_3 : tie.Need-returns-then-tree-from
 returns_3 c =
     let start = c.before.before.before.before.before.before.before.before.before in
     let s = start.args in
-    λ depths h. switch_past s.tree.now s.term.now (seen s.offsets.now depths s.entered.now s.count s.at) start.requires.0 h (omega (arith, c.before.before.before.before.if1.false)) (omega (arith, c.before.if2.false)) c.if3.true
+    λ depths h. switch_past s.tree.now s.term.now (seen s.offsets.now depths s.entered.now s.count s.at) start.requires.0 h (omega (arith, c.before.before.before.before.if-tree-at-lt-NODE_WORDS.false)) (omega (arith, c.before.if-count-n.false)) c.if-tree-from.true
 
-cast_offset : tie.Need-overflow-cast-offset
+cast_offset : tie.Need-overflow_cast-offset
 cast_offset c =
     let start = c.before.before.before.before.before.before.before.before.before.before in
-    omega (arith, start.requires.1.1.within _ c.before.before.if2.false, start.requires.0.short)
+    omega (arith, start.requires.1.1.within _ c.before.before.if-count-n.false, start.requires.0.short)
 
-mul_find_case : tie.Need-overflow-mul-find-case
+mul_find_case : tie.Need-offset_bounds-term-offset
 mul_find_case c =
     let start = c.before.before.before.before.before.before.before.before.before.before in
-    omega (arith, start.requires.1.1.within _ c.before.before.if2.false, start.requires.0.short)
+    omega (arith, start.requires.1.1.within _ c.before.before.if-count-n.false, start.requires.0.short)
 
-shared_slice_read_find_case : tie.Need-shared-slice-read-find-case
+shared_slice_read_find_case : tie.Need-bounds-term-offset
 shared_slice_read_find_case c =
     let start = c.before.before.before.before.before.before.before.before.before.before.before in
-    start.requires.1.1.within _ c.before.before.before.if2.false
+    start.requires.1.1.within _ c.before.before.before.if-count-n.false
 
-returns_4 : tie.Need-returns-4
+returns_4 : tie.Need-returns-in-To
 returns_4 c =
-    let start = c.before.before.before.before.before.before.before.before.before.before.before.before.before.before.before.before.before in
+    let start = c.before.before.before.before.before.before.before.before.before.before.before.before.before.before.before in
     let s = start.args in
-    λ depths h. switch_takes s.tree.now s.term.now (seen s.offsets.now depths s.entered.now s.count s.at) start.requires.0 h (omega (arith, c.before.before.before.before.before.before.before.before.before.before.before.before.if1.false)) (omega (arith, c.before.before.before.before.before.before.before.before.before.if2.false)) (omega (arith, c.before.before.before.before.before.before.before.before.if3.false)) _ c.before.before.before.before.before.find-case.ensures _ c.before.before.before.to.given.1 _ c.take-case.ensures
+    λ depths h. switch_takes s.tree.now s.term.now (seen s.offsets.now depths s.entered.now s.count s.at) start.requires.0 h (omega (arith, c.before.before.before.before.before.before.before.before.before.before.if-tree-at-lt-NODE_WORDS.false)) (omega (arith, c.before.before.before.before.before.before.before.if-count-n.false)) (omega (arith, c.before.before.before.before.before.before.if-tree-from.false)) _ c.before.before.before.find_case.ensures _ c.before.before.in-To.is _ c.take_case.ensures
 
-returns_5 : tie.Need-returns-5
+returns_5 : tie.Need-returns-in-Not
 returns_5 c =
-    let start = c.before.before.before.before.before.before.before.before.before.before.before.before.before.before.before.before in
+    let start = c.before.before.before.before.before.before.before.before.before.before.before.before.before.before.before in
     let s = start.args in
-    λ depths h. switch_goes s.tree.now s.term.now (seen s.offsets.now depths s.entered.now s.count s.at) start.requires.0 h (omega (arith, c.before.before.before.before.before.before.before.before.before.before.before.if1.false)) (omega (arith, c.before.before.before.before.before.before.before.before.if2.false)) (omega (arith, c.before.before.before.before.before.before.before.if3.false)) _ c.before.before.before.before.find-case.ensures c.before.before.enum_told.given.1 _ c.go_on.ensures
+    λ depths h. switch_goes s.tree.now s.term.now (seen s.offsets.now depths s.entered.now s.count s.at) start.requires.0 h (omega (arith, c.before.before.before.before.before.before.before.before.before.before.if-tree-at-lt-NODE_WORDS.false)) (omega (arith, c.before.before.before.before.before.before.before.if-count-n.false)) (omega (arith, c.before.before.before.before.before.before.if-tree-from.false)) _ c.before.before.before.find_case.ensures c.before.before.in-Not.is _ c.go_on.ensures
 
 pub decide_switch_spec : {M : Type 1} → statement M
 decide_switch_spec =

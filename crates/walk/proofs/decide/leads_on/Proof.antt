@@ -19,14 +19,14 @@ module _ (at to end : ℕ) where
   both : at < to → to < end → true ≡ (ltb at to && ltb to end)
   both l i = rw (lt-ltb at to l, lt-ltb to end i)
 
-returns : tie.Need-returns
-returns c = let s = c.before.args in not_later s.at s.to (length s.tree.now) c.if1.true
+returns : tie.Need-returns-then-to-at
+returns c = let s = c.before.args in not_later s.at s.to (length s.tree.now) c.if-to-at.true
 
-returns_2 : tie.Need-returns-2
-returns_2 c = let s = c.before.before.args in not_inside s.at s.to (length s.tree.now) (omega (arith, c.before.if1.false)) c.if2.true
+returns_2 : tie.Need-returns-then-tree-to
+returns_2 c = let s = c.before.before.args in not_inside s.at s.to (length s.tree.now) (omega (arith, c.before.if-to-at.false)) c.if-tree-to.true
 
-returns_3 : tie.Need-returns-3
-returns_3 c = let s = c.before.before.args in both s.at s.to (length s.tree.now) (omega (arith, c.before.if1.false)) (omega (arith, c.if2.false))
+returns_3 : tie.Need-returns
+returns_3 c = let s = c.before.before.args in both s.at s.to (length s.tree.now) (omega (arith, c.before.if-to-at.false)) (omega (arith, c.if-tree-to.false))
 
 pub leads_on_spec : {M : Type 1} → statement M
 leads_on_spec =

@@ -13,8 +13,8 @@ no_words : (ws : List ℕ) → length ws ≡ 0 → 0 ≡ count_of (get_or ws 0 0
 no_words [] e = omega arith
 no_words (w ∷ ws) e = absurd (omega arith)
 
-returns : tie.Need-returns
-returns c = no_words c.before.before.args.words.now c.if1.true
+returns : tie.Need-returns-then-words-eq0
+returns c = no_words c.before.before.args.words.now c.if-words-eq0.true
 
 pub first_count_spec : {M : Type 1} → statement M
 first_count_spec =

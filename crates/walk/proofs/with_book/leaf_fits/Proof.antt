@@ -7,45 +7,45 @@ use Rattle.walk.proofs.BookLeaf.{fits_absent, fits_sides, fits_other, fits_aside
 use Rattle.walk.proofs.with_book.leaf_fits.Statement.{statement}
 use Rattle.walk.proofs.with_book.leaf_fits.Tie as tie
 
-returns : tie.Need-returns
+returns : tie.Need-returns-in_default
 returns c =
-    let s = c.before.before.before.before.before.before.args in
-    fits_absent s.book.now s.arguments s.tree.now s.at (sym c.before.before.find-rule.ensures ∙ c.enum_told.given.1)
+    let s = c.before.before.before.before.before.args in
+    fits_absent s.book.now s.arguments s.tree.now s.at (sym c.before.find_rule.ensures ∙ c.in_default.is)
 
-returns_2 : tie.Need-returns-2
+returns_2 : tie.Need-returns-then-sides-n
 returns_2 c =
-    let s = c.before.before.before.before.before.before.before.before.before.before.args in
-    fits_other s.book.now s.arguments s.tree.now s.at _ (sym c.before.before.before.before.before.before.find-rule.ensures ∙ c.before.before.before.before.sides.given.1) c.if1.true
+    let s = c.before.before.before.before.before.before.before.before.args in
+    fits_other s.book.now s.arguments s.tree.now s.at _ (sym c.before.before.before.before.find_rule.ensures ∙ c.before.before.before.in-Rule.is) c.if-sides-n.true
 
-mul_left : tie.Need-overflow-mul-left
+mul_left : tie.Need-offset_bounds-book-from
 mul_left c =
-    let s = c.before.before.before.before.before.before.before.before.before.before.args in
-    let l = fits_sides s.book.now s.arguments s.tree.now s.at _ (sym c.before.before.before.before.before.before.find-rule.ensures ∙ c.before.before.before.before.sides.given.1) in omega (arith, l.0, l.1)
+    let s = c.before.before.before.before.before.before.before.before.args in
+    let l = fits_sides s.book.now s.arguments s.tree.now s.at _ (sym c.before.before.before.before.find_rule.ensures ∙ c.before.before.before.in-Rule.is) in omega (arith, l.0, l.1)
 
-sub_left : tie.Need-overflow-sub-left
+sub_left : tie.Need-slice_bounds-left-count
 sub_left c =
-    let s = c.before.before.before.before.before.before.before.before.before.before.args in
-    (fits_sides s.book.now s.arguments s.tree.now s.at _ (sym c.before.before.before.before.before.before.find-rule.ensures ∙ c.before.before.before.before.sides.given.1)).0
+    let s = c.before.before.before.before.before.before.before.before.args in
+    (fits_sides s.book.now s.arguments s.tree.now s.at _ (sym c.before.before.before.before.find_rule.ensures ∙ c.before.before.before.in-Rule.is)).0
 
-part_left_start : tie.Need-slice-bounds-left-start
+part_left_start : tie.Need-slice_bounds-left-start
 part_left_start c =
-    let s = c.before.before.before.before.before.before.before.before.before.before.args in
-    (fits_sides s.book.now s.arguments s.tree.now s.at _ (sym c.before.before.before.before.before.before.find-rule.ensures ∙ c.before.before.before.before.sides.given.1)).0
+    let s = c.before.before.before.before.before.before.before.before.args in
+    (fits_sides s.book.now s.arguments s.tree.now s.at _ (sym c.before.before.before.before.find_rule.ensures ∙ c.before.before.before.in-Rule.is)).0
 
-part_left_end : tie.Need-slice-bounds-left-end
+part_left_end : tie.Need-slice_bounds-left-end
 part_left_end c =
-    let s = c.before.before.before.before.before.before.before.before.before.before.args in
-    (fits_sides s.book.now s.arguments s.tree.now s.at _ (sym c.before.before.before.before.before.before.find-rule.ensures ∙ c.before.before.before.before.sides.given.1)).1
+    let s = c.before.before.before.before.before.before.before.before.args in
+    (fits_sides s.book.now s.arguments s.tree.now s.at _ (sym c.before.before.before.before.find_rule.ensures ∙ c.before.before.before.in-Rule.is)).1
 
-returns_3 : tie.Need-returns-3
+returns_3 : tie.Need-returns-then-not-aside_fits
 returns_3 c =
-    let s = c.before.before.before.before.before.before.before.before.before.before.before.before.before.before.args in
-    fits_aside s.book.now s.arguments s.tree.now s.at _ (sym c.before.before.before.before.before.before.before.before.before.before.find-rule.ensures ∙ c.before.before.before.before.before.before.before.before.sides.given.1) c.before.before.before.before.if1.false _ refl _ c.before.aside-fits.ensures (not-true _ c.if2.true)
+    let s = c.before.before.before.before.before.before.before.before.before.before.before.before.args in
+    fits_aside s.book.now s.arguments s.tree.now s.at _ (sym c.before.before.before.before.before.before.before.before.find_rule.ensures ∙ c.before.before.before.before.before.before.before.in-Rule.is) c.before.before.before.before.if-sides-n.false _ refl _ c.before.aside_fits.ensures (not-true _ c.if-not-aside_fits.true-raw)
 
-returns_4 : tie.Need-returns-4
+returns_4 : tie.Need-returns
 returns_4 c =
-    let s = c.before.before.before.before.before.before.before.before.before.before.before.before.before.before.before.args in
-    fits_counts s.book.now s.arguments s.tree.now s.at _ (sym c.before.before.before.before.before.before.before.before.before.before.before.find-rule.ensures ∙ c.before.before.before.before.before.before.before.before.before.sides.given.1) c.before.before.before.before.before.if1.false _ refl _ c.before.before.aside-fits.ensures (not-false _ c.before.if2.false) _ c.counts_fit.ensures
+    let s = c.before.before.before.before.before.before.before.before.before.before.before.before.before.args in
+    fits_counts s.book.now s.arguments s.tree.now s.at _ (sym c.before.before.before.before.before.before.before.before.before.find_rule.ensures ∙ c.before.before.before.before.before.before.before.before.in-Rule.is) c.before.before.before.before.before.if-sides-n.false _ refl _ c.before.before.aside_fits.ensures (not-false _ c.before.if-not-aside_fits.false-raw) _ c.counts_fit.ensures
 
 pub leaf_fits_spec : {M : Type 1} → statement M
 leaf_fits_spec =

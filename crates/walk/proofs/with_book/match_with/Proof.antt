@@ -10,56 +10,56 @@ use Rattle.walk.proofs.BookEnds.{with_none, with_damaged, with_unfit, with_rule_
 use Rattle.walk.proofs.with_book.match_with.Statement.{statement}
 use Rattle.walk.proofs.with_book.match_with.Tie as tie
 
-returns : tie.Need-returns
+returns : tie.Need-returns-then-walk-eq-NO_RULE
 returns c =
     let start = c.before.before.before.before.before.before.before in
-    let s = start.args in with_none s.book.now s.tree.now s.term.now start.requires.3 s.walk start.requires.2 _ _ _ start.requires.4 start.requires.5 c.if1.true refl
+    let s = start.args in with_none s.book.now s.tree.now s.term.now start.requires.3 s.walk start.requires.2 _ _ _ start.requires.4 start.requires.5 c.if-walk-eq-NO_RULE.true refl
 
-returns_2 : tie.Need-returns-2
+returns_2 : tie.Need-returns-then-walk-ne-RULE
 returns_2 c =
     let start = c.before.before.before.before.before.before.before.before.before in
-    let s = start.args in with_damaged s.book.now s.tree.now s.term.now start.requires.3 s.walk start.requires.2 _ _ _ start.requires.4 start.requires.5 c.before.before.if1.false c.if2.true refl
+    let s = start.args in with_damaged s.book.now s.tree.now s.term.now start.requires.3 s.walk start.requires.2 _ _ _ start.requires.4 start.requires.5 c.before.before.if-walk-eq-NO_RULE.false c.if-walk-ne-RULE.true refl
 
-leaf_fits_requires : tie.Need-leaf-fits-requires
+leaf_fits_requires : tie.Need-leaf_fits-requires
 leaf_fits_requires c κs =
     let start = c.before.before.before.before.before.before.before.before.before.before in
-    let s = start.args in (ended_sound s.tree.now s.term.now s.walk start.requires.2 c.before.if2.false).inside
+    let s = start.args in (ended_sound s.tree.now s.term.now s.walk start.requires.2 c.before.if-walk-ne-RULE.false).inside
 
-returns_3 : tie.Need-returns-3
+returns_3 : tie.Need-returns-then-not-leaf_fits
 returns_3 c =
     let start = c.before.before.before.before.before.before.before.before.before.before.before.before in
     let s = start.args in
-    with_unfit s.book.now s.tree.now s.term.now start.requires.3 s.walk start.requires.2 _ _ _ c.before.before.before.if2.false start.requires.0 start.requires.1 _ c.before.before.first_count.ensures start.requires.4 start.requires.5 (sym c.before.leaf-fits.ensures ∙ not-true _ c.if3.true) refl
+    with_unfit s.book.now s.tree.now s.term.now start.requires.3 s.walk start.requires.2 _ _ _ c.before.before.before.if-walk-ne-RULE.false start.requires.0 start.requires.1 _ c.before.before.first_count.ensures start.requires.4 start.requires.5 (sym c.before.leaf_fits.ensures ∙ not-true _ c.if-not-leaf_fits.true-raw) refl
 
-write_leaf_requires : tie.Need-write-leaf-requires
+write_leaf_requires : tie.Need-write_leaf-requires
 write_leaf_requires c κs =
     let start = c.before.before.before.before.before.before.before.before.before.before.before.before.before.before in
     let s = start.args in
-    (start.requires.0, ended_holds s.tree.now s.term.now s.walk start.requires.2, ended_sound s.tree.now s.term.now s.walk start.requires.2 c.before.before.before.before.before.if2.false, start.requires.4 ∙ ap (λ (n : ℕ). replicate n 0) (sym (ap length start.requires.4)), start.requires.5)
+    (start.requires.0, ended_holds s.tree.now s.term.now s.walk start.requires.2, ended_sound s.tree.now s.term.now s.walk start.requires.2 c.before.before.before.before.before.if-walk-ne-RULE.false, start.requires.4 ∙ ap (λ (n : ℕ). replicate n 0) (sym (ap length start.requires.4)), start.requires.5)
 
-add_t15 : tie.Need-overflow-add-t15
+add_t15 : tie.Need-overflow_add-result
 add_t15 c =
     let start = c.before.before.before.before.before.before.before.before.before.before.before.before.before.before.before.before.before.before.before in
     let s = start.args in
-    omega (arith, (ended_sound s.tree.now s.term.now s.walk start.requires.2 c.before.before.before.before.before.before.before.before.before.before.if2.false).inside)
+    omega (arith, (ended_sound s.tree.now s.term.now s.walk start.requires.2 c.before.before.before.before.before.before.before.before.before.before.if-walk-ne-RULE.false).inside)
 
-mul_t16 : tie.Need-overflow-mul-t16
+mul_t16 : tie.Need-offset_bounds-tree-at
 mul_t16 c =
     let start = c.before.before.before.before.before.before.before.before.before.before.before.before.before.before.before.before.before.before.before in
     let s = start.args in
-    omega (arith, (ended_sound s.tree.now s.term.now s.walk start.requires.2 c.before.before.before.before.before.before.before.before.before.before.if2.false).inside)
+    omega (arith, (ended_sound s.tree.now s.term.now s.walk start.requires.2 c.before.before.before.before.before.before.before.before.before.before.if-walk-ne-RULE.false).inside)
 
-shared_slice_read_t9 : tie.Need-shared-slice-read-t9
+shared_slice_read_t9 : tie.Need-bounds-tree-at
 shared_slice_read_t9 c =
     let start = c.before.before.before.before.before.before.before.before.before.before.before.before.before.before.before.before.before.before.before.before in
     let s = start.args in
-    omega (arith, (ended_sound s.tree.now s.term.now s.walk start.requires.2 c.before.before.before.before.before.before.before.before.before.before.before.if2.false).inside)
+    omega (arith, (ended_sound s.tree.now s.term.now s.walk start.requires.2 c.before.before.before.before.before.before.before.before.before.before.before.if-walk-ne-RULE.false).inside)
 
-returns_4 : tie.Need-returns-4
+returns_4 : tie.Need-returns
 returns_4 c =
     let start = c.before.before.before.before.before.before.before.before.before.before.before.before.before.before.before.before.before.before.before.before in
     let s = start.args in
-    with_rule_lem s.book.now s.tree.now s.term.now start.requires.3 s.walk start.requires.2 _ _ _ c.before.before.before.before.before.before.before.before.before.before.before.if2.false start.requires.0 start.requires.1 _ c.before.before.before.before.before.before.before.before.before.before.first_count.ensures (sym c.before.before.before.before.before.before.before.before.before.leaf-fits.ensures ∙ not-false _ c.before.before.before.before.before.before.before.before.if3.false) _ (ap length start.requires.4 ∙ length-replicate {A = ℕ} 65536 0) _ c.before.before.before.before.before.write-leaf.ensures refl
+    with_rule_lem s.book.now s.tree.now s.term.now start.requires.3 s.walk start.requires.2 _ _ _ c.before.before.before.before.before.before.before.before.before.before.before.if-walk-ne-RULE.false start.requires.0 start.requires.1 _ c.before.before.before.before.before.before.before.before.before.before.first_count.ensures (sym c.before.before.before.before.before.before.before.before.before.leaf_fits.ensures ∙ not-false _ c.before.before.before.before.before.before.before.before.if-not-leaf_fits.false-raw) _ (ap length start.requires.4 ∙ length-replicate {A = ℕ} 65536 0) _ c.before.before.before.before.before.write_leaf.ensures refl
 
 pub match_with_spec : {M : Type 1} → statement M
 match_with_spec =
