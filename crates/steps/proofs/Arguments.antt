@@ -1,7 +1,7 @@
 -- Arguments at the end of a symbol stand beside its own: so what is written with them is as large as both together, and formed where both are.
 use mathlib.Core.Path.{◌≡◌, refl, sym, ap, ◌∙◌}
 use mathlib.Core.Bool.{Bool, true, false, ◌&&◌}
-use mathlib.Core.List.{◌∷◌, ◌++◌, append_nil}
+use mathlib.Core.List.{◌∷◌, ◌++◌, append-nil}
 use mathlib.Core.Option.{none, some}
 use Prim.Native.Nat.{ℕ, suc, ◌+◌, ◌*◌, ◌≤◌, ◌<◌, max}
 use native.Mathlib.Omega.{arith}
@@ -78,7 +78,7 @@ module _ (i c : ℕ) (kids rest more : Row) (few : c + width more ≤ 15) where
       → words (node (symbol i (c + width more)) (kids ⧺ more) rest) ≡ word (symbol i (c + width more)) ∷ (drop 1 (words (node (symbol i c) kids rest)) ++ words more)
   node_words one =
       let z : rest ≡ nothing = none_wide rest (omega (arith, width_node (symbol i c) kids rest, one)) in
-      rw (z, words_node (symbol i (c + width more)) (kids ⧺ more) nothing, words_node (symbol i c) kids nothing, words_nothing, words_join kids more, append_nil (words kids), append_nil (words kids ++ words more))
+      rw (z, words_node (symbol i (c + width more)) (kids ⧺ more) nothing, words_node (symbol i c) kids nothing, words_nothing, words_join kids more, append-nil (words kids), append-nil (words kids ++ words more))
 
   node_taken_formed : Formed (node (symbol i c) kids rest) → Formed more → Formed (node (symbol i (c + width more)) (kids ⧺ more) rest)
   node_taken_formed f g =

@@ -1,7 +1,7 @@
 -- A right side with the arguments set aside: its root tells whether it takes them, and with them it is within the limits just where it is so without them and all have room.
 use mathlib.Core.Path.{◌≡◌, refl, sym, ap, ◌∙◌}
 use mathlib.Core.Bool.{Bool, true, false, ◌&&◌}
-use mathlib.Core.List.{List, [], ◌∷◌, ◌++◌, append_nil}
+use mathlib.Core.List.{List, [], ◌∷◌, ◌++◌, append-nil}
 use mathlib.Core.Option.{some}
 use Prim.Native.Nat.{ℕ, ◌+◌, ◌*◌, ◌-◌, ◌≤◌, ◌<◌}
 use native.Mathlib.Omega.{arith}
@@ -118,7 +118,7 @@ module _ (right : List ℕ) (b : ℕ) (part : List ℕ) (parted : Parted part) (
       u = write bs 0 p
 
       stands : RightStands vars k 0 1 right 0 p []
-      stands = record { good = good; low = omega (arith, low); wide = one; same = sym same ∙ sym (append_nil (words p)) }
+      stands = record { good = good; low = omega (arith, low); wide = one; same = sym same ∙ sym (append-nil (words p)) }
 
       shaped : Shaped u
       shaped = shaped_written vars bs (λ x h. (g.body x h).one) k (λ x h. (g.body x h).within.formed) 0 p good

@@ -1,7 +1,7 @@
 -- Offsets of a term's words and its tree say the same: the part at an offset is read there, and replacing it replaces its words and no others.
 use mathlib.Core.Path.{◌≡◌, refl, sym, ap, ap₂, ◌∙◌}
 use mathlib.Core.Bool.{Bool, true, false}
-use mathlib.Core.List.{List, [], ◌∷◌, ◌++◌, append_assoc, append_nil}
+use mathlib.Core.List.{List, [], ◌∷◌, ◌++◌, append_assoc, append-nil}
 use mathlib.Core.Option.{some}
 use Prim.Native.Nat.{ℕ, zero, suc, ◌+◌, ◌-◌, ◌≤◌, ◌<◌, max}
 use native.Mathlib.Omega.{arith}
@@ -81,7 +81,7 @@ split_here h kids rest =
       long = refl;
       whole =
           words_node h kids rest
-          ∙ ap (λ (ws : List ℕ). word h ∷ (ws ++ words rest)) (sym (append_nil (words kids)) ∙ ap (λ (ws : List ℕ). words kids ++ ws) (sym words_nothing))
+          ∙ ap (λ (ws : List ℕ). word h ∷ (ws ++ words rest)) (sym (append-nil (words kids)) ∙ ap (λ (ws : List ℕ). words kids ++ ws) (sym words_nothing))
           ∙ ap (λ (ws : List ℕ). ws ++ words rest) (sym (ap words (part_first h kids rest) ∙ words_node h kids nothing));
       new = λ u. ap words (splice_first h kids rest u) ∙ words_join u rest;
     }

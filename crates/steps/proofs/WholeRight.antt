@@ -1,7 +1,7 @@
 -- A whole right side is one tree under no abstraction. What is written of it is a term but for its limits, so it is within them just where it was written to the end.
 use mathlib.Core.Path.{◌≡◌, refl, sym, ap, ◌∙◌}
 use mathlib.Core.Bool.{Bool, true, false}
-use mathlib.Core.List.{List, [], append_nil}
+use mathlib.Core.List.{List, [], append-nil}
 use Prim.Native.Nat.{ℕ}
 use native.Mathlib.Omega.{arith}
 use lib.ListN.{length}
@@ -35,7 +35,7 @@ root_ids = refl
 pub right_written : (right bodies lengths out done : List ℕ) (r : Passed) → RightTold (at_root 64) 64 1 right 0 bodies lengths out 0 done r → RightWritten right bodies lengths out done r
 unfolding RightWritten RightTold
 right_written right bodies lengths out done r told vars k b p good one low same g =
-    let s : RightStands vars k 0 1 right 0 p [] = record { good = good; low = omega (arith, low); wide = one; same = sym same ∙ sym (append_nil (words p)) } in
+    let s : RightStands vars k 0 1 right 0 p [] = record { good = good; low = omega (arith, low); wide = one; same = sym same ∙ sym (append-nil (words p)) } in
     let e : written_in b 0 (ids_in (at_root 64)) p ≡ write b 0 p = ap (λ (ids : List ℕ). written_in b 0 ids p) root_ids ∙ written_root b p in
     within_told out done (write b 0 p) (shaped_written vars b (λ x h. (g.body x h).one) k (λ x h. (g.body x h).within.formed) 0 p good) r
     (rw e at (told vars k b p [] s g (omega arith)))

@@ -16,7 +16,7 @@ use term::renumber::Passed;
 use term::word::{COUNT, PATTERN, SYMBOL, SYMBOL_COUNT, VARIABLE, count_of, id_of, kind_of};
 
 // The root of what is written: a symbol, with its word, or anything else.
-#[derive(Drop)]
+#[derive(Clone, Copy)]
 pub enum Root {
     Symbol(u32),
     Other,

@@ -1,4 +1,6 @@
 // Writing a right side, rewriting at the root, a step and simplifying: document 01's "Right sides and simplifying".
+#![tactic(auto)]
+
 mod area;
 mod aside;
 pub mod rewrite;

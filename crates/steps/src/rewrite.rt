@@ -14,7 +14,7 @@ use term::lent::clear;
 const NO_VISITS: u64 = 0;
 
 // The answer, and how many nodes the walk visited.
-#[derive(Drop)]
+#[derive(Clone, Copy)]
 pub struct Rewritten {
     pub answer: Answer,
     pub visits: u64,

@@ -19,7 +19,7 @@ use term::word::{KIND, PATTERN, VARIABLE, count_of, id_of, kind_of};
 const IDS: u32 = 65536;
 
 // Done at the offsets after a row of a body and after what it writes, or Stuck.
-#[derive(Drop)]
+#[derive(Clone, Copy)]
 pub enum Both {
     Done(usize, usize),
     Stuck,

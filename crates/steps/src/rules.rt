@@ -24,7 +24,7 @@ pub const LENGTHS: usize = 16;
 
 // What became of a part: no rule fits, so many words were written, the tree is damaged, what the rule writes cannot take so many arguments set
 // aside, or it is over the limits.
-#[derive(Drop)]
+#[derive(Clone, Copy)]
 pub enum Rewrote {
     None,
     Wrote(usize),
@@ -34,7 +34,7 @@ pub enum Rewrote {
 }
 
 // What became of a part, and how many nodes its walk visited.
-#[derive(Drop)]
+#[derive(Clone, Copy)]
 pub struct Rewriting {
     pub wrote: Rewrote,
     pub visits: u64,

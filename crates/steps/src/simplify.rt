@@ -17,7 +17,7 @@ use term::lent::clear;
 use term::renumber::Passed;
 
 // Where a search ended and what became of the part there, none where no offset has a rule; and how many nodes it visited.
-#[derive(Drop)]
+#[derive(Clone, Copy)]
 pub struct Searched {
     pub at: usize,
     pub wrote: Rewrote,
@@ -26,21 +26,21 @@ pub struct Searched {
 
 // What a step makes of the term in the work area: it has so many words now; or no step is made, with the answer and how many words are left, none
 // after a refusal.
-#[derive(Drop)]
+#[derive(Clone, Copy)]
 pub enum Moved {
     To(usize),
     Ends(Answer, usize),
 }
 
 // What a step makes of the term, and how many nodes its search visited.
-#[derive(Drop)]
+#[derive(Clone, Copy)]
 pub struct Stepping {
     pub moved: Moved,
     pub visits: u64,
 }
 
 // The answer, the steps made, and how many nodes were visited.
-#[derive(Drop)]
+#[derive(Clone, Copy)]
 pub struct Simplified {
     pub answer: Answer,
     pub steps: u16,
@@ -49,7 +49,7 @@ pub struct Simplified {
 
 // How repeating steps ended: the answer, the steps made, the nodes visited, and how many words of the work area are the term so far. No words after a
 // refusal.
-#[derive(Drop)]
+#[derive(Clone, Copy)]
 pub struct Ran {
     pub answer: Answer,
     pub steps: u16,

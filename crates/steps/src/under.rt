@@ -8,7 +8,7 @@ use term::word::{ABSTRACTION, kind_of};
 
 // So many abstractions are around, and the right side has so many of them; for each of these, the outermost first, those around it.
 // What is written here may nest so many levels.
-#[derive(Drop)]
+#[derive(Clone, Copy)]
 pub struct Under {
     pub depth: u32,
     pub own: usize,
@@ -74,7 +74,7 @@ impl Under {
 }
 
 // Under e abstractions of the body of a pattern variable, which stands there with so many children, at an offset of the right side.
-#[derive(Drop)]
+#[derive(Clone, Copy)]
 pub struct Within {
     pub under: Under,
     pub e: u32,

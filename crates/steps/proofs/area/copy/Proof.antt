@@ -9,44 +9,44 @@ use Rattle.steps.proofs.Copies.{copied_more, copied_long, copied_all}
 use Rattle.steps.proofs.area.copy.Statement.{statement}
 use Rattle.steps.proofs.area.copy.Tie as tie
 
-abbrev invariant-loop : tie.invariant-loop
-invariant-loop from to₀ at j₀ to j = (j ≤ length from) × (length to ≡ length to₀) × (to ≡ paste to₀ at from j)
+abbrev invariant-loop-j : tie.invariant-loop-j
+invariant-loop-j from to₀ at j₀ to j = (j ≤ length from) × (length to ≡ length to₀) × (to ≡ paste to₀ at from j)
 
-abbrev decreases-loop : tie.decreases-loop
-decreases-loop from to₀ at j₀ to j = length from - j
+abbrev decreases-loop-j : tie.decreases-loop-j
+decreases-loop-j from to₀ at j₀ to j = length from - j
 
-loop_holds : tie.Need-loop-init invariant-loop decreases-loop
+loop_holds : tie.Need-loop-j-init invariant-loop-j decreases-loop-j
 loop_holds c = let s = c.args in (omega arith, refl, paste-zero s.to.now s.at s.from.now)
 
-loop_again : tie.Need-loop-preserved invariant-loop decreases-loop
+loop_again : tie.Need-loop-j-preserved invariant-loop-j decreases-loop-j
 loop_again c =
     let start = c.before.before.before in
     let turn = c.before.before in
     let s = start.args in
-    let e = copied_more s.to.now s.at s.from.now turn.loop.j turn.loop.to start.requires c.before.loop-test.true turn.loop.invariant.2 in
-    (omega (arith, c.before.loop-test.true), copied_long s.to.now s.at s.from.now (turn.loop.j + 1) _ start.requires (omega (arith, c.before.loop-test.true)) e, e)
+    let e = copied_more s.to.now s.at s.from.now turn.loop-j.j turn.loop-j.to start.requires c.before.loop-j-test.true turn.loop-j.invariant.2 in
+    (omega (arith, c.before.loop-j-test.true), copied_long s.to.now s.at s.from.now (turn.loop-j.j + 1) _ start.requires (omega (arith, c.before.loop-j-test.true)) e, e)
 
-slice_write_to : tie.Need-slice-write-to invariant-loop decreases-loop
-slice_write_to c = omega (arith, c.before.loop-test.true, c.before.before.loop.invariant.1, c.before.before.before.requires)
+slice_write_to : tie.Need-bounds-to-at invariant-loop-j decreases-loop-j
+slice_write_to c = omega (arith, c.before.loop-j-test.true, c.before.before.loop-j.invariant.1, c.before.before.before.requires)
 
-add_to : tie.Need-overflow-add-to invariant-loop decreases-loop
-add_to c = omega (arith, c.before.loop-test.true, c.before.before.loop.invariant.1, c.before.before.before.requires)
+add_to : tie.Need-overflow_add-to invariant-loop-j decreases-loop-j
+add_to c = omega (arith, c.before.loop-j-test.true, c.before.before.loop-j.invariant.1, c.before.before.before.requires)
 
-mul_to_2 : tie.Need-overflow-mul-to-2 invariant-loop decreases-loop
-mul_to_2 c = omega (arith, c.before.loop-test.true, c.before.before.loop.invariant.1, c.before.before.before.requires)
+mul_to_2 : tie.Need-offset_bounds-to-at invariant-loop-j decreases-loop-j
+mul_to_2 c = omega (arith, c.before.loop-j-test.true, c.before.before.loop-j.invariant.1, c.before.before.before.requires)
 
-same_length : tie.Need-same-length invariant-loop decreases-loop
-same_length c = c.before.loop.invariant.1
+same_length : tie.Need-shape_of-to invariant-loop-j decreases-loop-j
+same_length c = c.before.loop-j.invariant.1
 
-returns : tie.Need-returns invariant-loop decreases-loop
-returns c = let s = c.before.before.args in copied_all s.to.now s.at s.from.now c.before.loop.j _ c.before.loop.invariant.0 (omega (arith, c.loop-test.false)) c.before.loop.invariant.2
+returns : tie.Need-returns invariant-loop-j decreases-loop-j
+returns c = let s = c.before.before.args in copied_all s.to.now s.at s.from.now c.before.loop-j.j _ c.before.loop-j.invariant.0 (omega (arith, c.loop-j-test.false)) c.before.loop-j.invariant.2
 
 pub copy_spec : {M : Type 1} → statement M
 copy_spec =
     tie.close
     (tie.spec
-    invariant-loop
-    decreases-loop
+    invariant-loop-j
+    decreases-loop-j
     loop_holds
     (λ c. search rules)
     (λ c. search rules)

@@ -6,18 +6,18 @@ use Rattle.steps.proofs.Copies.{given_short, given_all}
 use Rattle.steps.proofs.area.give.Statement.{statement}
 use Rattle.steps.proofs.area.give.Tie as tie
 
-returns : tie.Need-returns
+returns : tie.Need-returns-then-out-words
 returns c =
     let start = c.before.before.before in
-    let s = start.args in given_short (length s.out.now) s.words.now _ s.answer start.requires c.if1.true
+    let s = start.args in given_short (length s.out.now) s.words.now _ s.answer start.requires c.if-out-words.true
 
 copy_requires : tie.Need-copy-requires
-copy_requires c κs = omega (arith, c.before.if1.false)
+copy_requires c κs = omega (arith, c.before.if-out-words.false)
 
-returns_2 : tie.Need-returns-2
+returns_2 : tie.Need-returns
 returns_2 c =
     let start = c.before.before.before.before.before.before.before in
-    let s = start.args in given_all (length s.out.now) s.words.now _ s.answer s.out.now start.requires (omega (arith, c.before.before.before.before.if1.false)) c.before.before.copy.ensures
+    let s = start.args in given_all (length s.out.now) s.words.now _ s.answer s.out.now start.requires (omega (arith, c.before.before.before.before.if-out-words.false)) c.before.before.copy.ensures
 
 pub give_spec : {M : Type 1} → statement M
 give_spec =

@@ -7,20 +7,20 @@ use Rattle.steps.proofs.AsideWords.{attach_wide, attach_over, attach_room, attac
 use Rattle.steps.proofs.aside.attach.Statement.{statement}
 use Rattle.steps.proofs.aside.attach.Tie as tie
 
-returns : tie.Need-returns
-returns c = let start = c.before.before.before in let s = start.args in attach_wide s.new.now s.n s.first s.arguments.now start.requires c.if1.true _
+returns : tie.Need-returns-then-n-gt-MOST_WORDS
+returns c = let start = c.before.before.before in let s = start.args in attach_wide s.new.now s.n s.first s.arguments.now start.requires c.if-n-gt-MOST_WORDS.true _
 
-returns_2 : tie.Need-returns-2
-returns_2 c = let start = c.before.before.before.before in let s = start.args in attach_over s.new.now s.n s.first s.arguments.now start.requires (omega (arith, c.before.if1.false)) c.if2.true _
+returns_2 : tie.Need-returns-then-n-arguments
+returns_2 c = let start = c.before.before.before.before in let s = start.args in attach_over s.new.now s.n s.first s.arguments.now start.requires (omega (arith, c.before.if-n-gt-MOST_WORDS.false)) c.if-n-arguments.true _
 
 copy_requires : tie.Need-copy-requires
-copy_requires c κs = let start = c.before.before.before.before.before in let s = start.args in attach_room s.new.now s.n s.first s.arguments.now start.requires (omega (arith, c.before.before.if1.false)) (omega (arith, c.before.if2.false))
+copy_requires c κs = let start = c.before.before.before.before.before in let s = start.args in attach_room s.new.now s.n s.first s.arguments.now start.requires (omega (arith, c.before.before.if-n-gt-MOST_WORDS.false)) (omega (arith, c.before.if-n-arguments.false))
 
-same_length : tie.Need-same-length
-same_length c = c.before.before.copy.auto.1.0 ∙ length-set c.before.before.before.before.before.before.before.before.args.new.now 0 c.before.before.before.before.before.before.before.before.args.first
+same_length : tie.Need-shape_of-new
+same_length c = c.before.before.copy.auto.to ∙ length-set c.before.before.before.before.before.before.before.before.args.new.now 0 c.before.before.before.before.before.before.before.before.args.first
 
-returns_3 : tie.Need-returns-3
-returns_3 c = let start = c.before.before.before.before.before.before.before.before in let s = start.args in attach_done s.new.now s.n s.first s.arguments.now start.requires (omega (arith, c.before.before.before.before.before.if1.false)) (omega (arith, c.before.before.before.before.if2.false)) _ c.before.before.copy.ensures
+returns_3 : tie.Need-returns
+returns_3 c = let start = c.before.before.before.before.before.before.before.before in let s = start.args in attach_done s.new.now s.n s.first s.arguments.now start.requires (omega (arith, c.before.before.before.before.before.if-n-gt-MOST_WORDS.false)) (omega (arith, c.before.before.before.before.if-n-arguments.false)) _ c.before.before.copy.ensures
 
 pub attach_spec : {M : Type 1} → statement M
 attach_spec = tie.close (tie.spec returns returns_2 (λ c. search rules) copy_requires (λ c. search rules) same_length returns_3)

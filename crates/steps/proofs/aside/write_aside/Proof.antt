@@ -9,63 +9,63 @@ use Rattle.steps.proofs.AsideWrites.{front_other, front_full, front_over, front_
 use Rattle.steps.proofs.aside.write_aside.Statement.{statement}
 use Rattle.steps.proofs.aside.write_aside.Tie as tie
 
-returns : tie.Need-returns
+returns : tie.Need-returns-in_default
 returns c =
-    let start = c.before.before.before.before.before.before.before.before.before.before in
+    let start = c.before.before.before.before.before.before.before.before.before in
     let s = start.args in
-    front_other s.right.now s.b s.part.now start.requires.0 start.requires.1 s.bodies.now s.lengths.now _ (ap (λ (n : ℕ). n - s.b) c.before.before.before.count_of.ensures) start.requires.2 (rw c.enum_told.given.1 at c.before.before.written_root.ensures) _
+    front_other s.right.now s.b s.part.now start.requires.0 start.requires.1 s.bodies.now s.lengths.now _ (ap (λ (n : ℕ). n - s.b) c.before.before.count_of.ensures) start.requires.2 (rw c.in_default.is at c.before.written_root.ensures) _
 
-returns_2 : tie.Need-returns-2
+returns_2 : tie.Need-returns-then-count_of-more-gt-SYMBOL_COUNT
 returns_2 c =
-    let start = c.before.before.before.before.before.before.before.before.before.before.before.before.before in
+    let start = c.before.before.before.before.before.before.before.before.before.before.before in
     let s = start.args in
-    front_full s.right.now s.b s.part.now start.requires.0 start.requires.1 s.bodies.now s.lengths.now _ (ap (λ (n : ℕ). n - s.b) c.before.before.before.before.before.before.count_of.ensures) start.requires.2 _ (rw c.before.before.before.w.given.1 at c.before.before.before.before.before.written_root.ensures) (omega (arith, c.if1.true, c.before.count-of2.ensures)) _
+    front_full s.right.now s.b s.part.now start.requires.0 start.requires.1 s.bodies.now s.lengths.now _ (ap (λ (n : ℕ). n - s.b) c.before.before.before.before.count_of.ensures) start.requires.2 _ (rw c.before.before.in-Symbol.is at c.before.before.before.written_root.ensures) (omega (arith, c.if-count_of-more-gt-SYMBOL_COUNT.true, c.before.count_of-2.ensures)) _
 
-returns_3 : tie.Need-returns-3
+returns_3 : tie.Need-returns-in_default-write_right
 returns_3 c =
+    let start = c.before.before.before.before.before.before.before.before.before.before.before.before.before.before.before.before in
+    let s = start.args in
+    front_over s.right.now s.b s.part.now start.requires.0 start.requires.1 s.bodies.now s.lengths.now _ (ap (λ (n : ℕ). n - s.b) c.before.before.before.before.before.before.before.before.before.count_of.ensures) start.requires.2 _ (rw c.before.before.before.before.before.before.before.in-Symbol.is at c.before.before.before.before.before.before.before.before.written_root.ensures) (omega (arith, c.before.before.before.before.before.if-count_of-more-gt-SYMBOL_COUNT.false, c.before.before.before.before.before.before.count_of-2.ensures)) _ _ (rw c.in_default-write_right.is at c.before.before.before.write_right.ensures)
+
+lies : tie.Need-slice_bounds-attach-count
+lies c =
     let start = c.before.before.before.before.before.before.before.before.before.before.before.before.before.before.before.before.before.before.before in
     let s = start.args in
-    front_over s.right.now s.b s.part.now start.requires.0 start.requires.1 s.bodies.now s.lengths.now _ (ap (λ (n : ℕ). n - s.b) c.before.before.before.before.before.before.before.before.before.before.before.before.count_of.ensures) start.requires.2 _ (rw c.before.before.before.before.before.before.before.before.before.w.given.1 at c.before.before.before.before.before.before.before.before.before.before.before.written_root.ensures) (omega (arith, c.before.before.before.before.before.before.if1.false, c.before.before.before.before.before.before.before.count-of2.ensures)) _ _ (rw c.enum-told2.given.1 at c.before.before.before.before.write-right.ensures)
-
-lies : tie.Need-overflow-sub-attach
-lies c =
-    let start = c.before.before.before.before.before.before.before.before.before.before.before.before.before.before.before.before.before.before.before.before.before.before.before in
-    let s = start.args in
     let l = aside_lies s.part.now start.requires.0 start.requires.1 s.b (omega (arith, start.requires.2)) in
-    omega (arith, l.0, c.before.before.child_at.ensures, c.before.part_end.ensures)
+    omega (arith, l.0, c.before.before.child_at-from.ensures, c.before.part_end-end.ensures)
 
-mul_attach_2 : tie.Need-overflow-mul-attach-2
+mul_attach_2 : tie.Need-offset_bounds-part-from
 mul_attach_2 c =
-    let start = c.before.before.before.before.before.before.before.before.before.before.before.before.before.before.before.before.before.before.before.before.before.before.before in
+    let start = c.before.before.before.before.before.before.before.before.before.before.before.before.before.before.before.before.before.before.before in
     let s = start.args in
     let l = aside_lies s.part.now start.requires.0 start.requires.1 s.b (omega (arith, start.requires.2)) in
-    omega (arith, l.0, l.1, start.requires.0.short, c.before.before.child_at.ensures, c.before.part_end.ensures)
+    omega (arith, l.0, l.1, start.requires.0.short, c.before.before.child_at-from.ensures, c.before.part_end-end.ensures)
 
-part_attach_start : tie.Need-slice-bounds-attach-start
+part_attach_start : tie.Need-slice_bounds-attach-start
 part_attach_start c =
-    let start = c.before.before.before.before.before.before.before.before.before.before.before.before.before.before.before.before.before.before.before.before.before.before.before in
+    let start = c.before.before.before.before.before.before.before.before.before.before.before.before.before.before.before.before.before.before.before in
     let s = start.args in
     let l = aside_lies s.part.now start.requires.0 start.requires.1 s.b (omega (arith, start.requires.2)) in
-    omega (arith, l.0, c.before.before.child_at.ensures, c.before.part_end.ensures)
+    omega (arith, l.0, c.before.before.child_at-from.ensures, c.before.part_end-end.ensures)
 
-part_attach_end : tie.Need-slice-bounds-attach-end
+part_attach_end : tie.Need-slice_bounds-attach-end
 part_attach_end c =
-    let start = c.before.before.before.before.before.before.before.before.before.before.before.before.before.before.before.before.before.before.before.before.before.before.before in
+    let start = c.before.before.before.before.before.before.before.before.before.before.before.before.before.before.before.before.before.before.before in
     let s = start.args in
     let l = aside_lies s.part.now start.requires.0 start.requires.1 s.b (omega (arith, start.requires.2)) in
-    omega (arith, l.1, c.before.part_end.ensures)
+    omega (arith, l.1, c.before.part_end-end.ensures)
 
-returns_4 : tie.Need-returns-4
+returns_4 : tie.Need-returns-in-Done-attach
 returns_4 c =
-    let start = c.before.before.before.before.before.before.before.before.before.before.before.before.before.before.before.before.before.before.before.before.before.before.before.before.before.before.before.before.before.before in
+    let start = c.before.before.before.before.before.before.before.before.before.before.before.before.before.before.before.before.before.before.before.before.before.before.before.before in
     let s = start.args in
-    front_attached s.right.now s.b s.part.now start.requires.0 start.requires.1 s.bodies.now s.lengths.now _ (ap (λ (n : ℕ). n - s.b) c.before.before.before.before.before.before.before.before.before.before.before.before.before.before.before.before.before.before.before.before.before.before.before.count_of.ensures) start.requires.2 _ (rw c.before.before.before.before.before.before.before.before.before.before.before.before.before.before.before.before.before.before.before.before.w.given.1 at c.before.before.before.before.before.before.before.before.before.before.before.before.before.before.before.before.before.before.before.before.before.before.written_root.ensures) (omega (arith, c.before.before.before.before.before.before.before.before.before.before.before.before.before.before.before.before.before.if1.false, c.before.before.before.before.before.before.before.before.before.before.before.before.before.before.before.before.before.before.count-of2.ensures)) s.out.now _ start.requires.4 _ (rw c.before.before.before.before.before.before.before.before.before.before.before.n.given.1 at c.before.before.before.before.before.before.before.before.before.before.before.before.before.before.before.write-right.ensures) _ (aside_words s.part.now start.requires.0 start.requires.1 s.b (omega (arith, start.requires.2)) _ _ c.before.before.before.before.before.before.before.before.before.child_at.ensures c.before.before.before.before.before.before.before.before.part_end.ensures) _ refl _ (step.Done _) (rw c.before.size.given.1 at c.before.before.before.before.before.attach.ensures)
+    front_attached s.right.now s.b s.part.now start.requires.0 start.requires.1 s.bodies.now s.lengths.now _ (ap (λ (n : ℕ). n - s.b) c.before.before.before.before.before.before.before.before.before.before.before.before.before.before.before.before.before.count_of.ensures) start.requires.2 _ (rw c.before.before.before.before.before.before.before.before.before.before.before.before.before.before.before.in-Symbol.is at c.before.before.before.before.before.before.before.before.before.before.before.before.before.before.before.before.written_root.ensures) (omega (arith, c.before.before.before.before.before.before.before.before.before.before.before.before.before.if-count_of-more-gt-SYMBOL_COUNT.false, c.before.before.before.before.before.before.before.before.before.before.before.before.before.before.count_of-2.ensures)) s.out.now _ start.requires.4 _ (rw c.before.before.before.before.before.before.before.before.in-Done.is at c.before.before.before.before.before.before.before.before.before.before.before.write_right.ensures) _ (aside_words s.part.now start.requires.0 start.requires.1 s.b (omega (arith, start.requires.2)) _ _ c.before.before.before.before.before.before.before.child_at-from.ensures c.before.before.before.before.before.before.part_end-end.ensures) _ refl _ (step.Done _) (rw c.in-Done-attach.is at c.before.before.before.attach.ensures)
 
-returns_5 : tie.Need-returns-5
+returns_5 : tie.Need-returns-in-Stuck
 returns_5 c =
-    let start = c.before.before.before.before.before.before.before.before.before.before.before.before.before.before.before.before.before.before.before.before.before.before.before.before.before.before.before.before.before in
+    let start = c.before.before.before.before.before.before.before.before.before.before.before.before.before.before.before.before.before.before.before.before.before.before.before.before in
     let s = start.args in
-    front_attached s.right.now s.b s.part.now start.requires.0 start.requires.1 s.bodies.now s.lengths.now _ (ap (λ (n : ℕ). n - s.b) c.before.before.before.before.before.before.before.before.before.before.before.before.before.before.before.before.before.before.before.before.before.before.count_of.ensures) start.requires.2 _ (rw c.before.before.before.before.before.before.before.before.before.before.before.before.before.before.before.before.before.before.before.w.given.1 at c.before.before.before.before.before.before.before.before.before.before.before.before.before.before.before.before.before.before.before.before.before.written_root.ensures) (omega (arith, c.before.before.before.before.before.before.before.before.before.before.before.before.before.before.before.before.if1.false, c.before.before.before.before.before.before.before.before.before.before.before.before.before.before.before.before.before.count-of2.ensures)) s.out.now _ start.requires.4 _ (rw c.before.before.before.before.before.before.before.before.before.before.n.given.1 at c.before.before.before.before.before.before.before.before.before.before.before.before.before.before.write-right.ensures) _ (aside_words s.part.now start.requires.0 start.requires.1 s.b (omega (arith, start.requires.2)) _ _ c.before.before.before.before.before.before.before.before.child_at.ensures c.before.before.before.before.before.before.before.part_end.ensures) _ refl _ step.Stuck (rw c.enum-told3.given.1 at c.before.before.before.before.attach.ensures)
+    front_attached s.right.now s.b s.part.now start.requires.0 start.requires.1 s.bodies.now s.lengths.now _ (ap (λ (n : ℕ). n - s.b) c.before.before.before.before.before.before.before.before.before.before.before.before.before.before.before.before.before.count_of.ensures) start.requires.2 _ (rw c.before.before.before.before.before.before.before.before.before.before.before.before.before.before.before.in-Symbol.is at c.before.before.before.before.before.before.before.before.before.before.before.before.before.before.before.before.written_root.ensures) (omega (arith, c.before.before.before.before.before.before.before.before.before.before.before.before.before.if-count_of-more-gt-SYMBOL_COUNT.false, c.before.before.before.before.before.before.before.before.before.before.before.before.before.before.count_of-2.ensures)) s.out.now _ start.requires.4 _ (rw c.before.before.before.before.before.before.before.before.in-Done.is at c.before.before.before.before.before.before.before.before.before.before.before.write_right.ensures) _ (aside_words s.part.now start.requires.0 start.requires.1 s.b (omega (arith, start.requires.2)) _ _ c.before.before.before.before.before.before.before.child_at-from.ensures c.before.before.before.before.before.before.part_end-end.ensures) _ refl _ step.Stuck (rw c.in-Stuck.is at c.before.before.before.attach.ensures)
 
 pub write_aside_spec : {M : Type 1} → statement M
 write_aside_spec =

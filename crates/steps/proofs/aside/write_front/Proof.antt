@@ -6,17 +6,17 @@ use Rattle.steps.proofs.AsideWrites.{front_plain}
 use Rattle.steps.proofs.aside.write_front.Statement.{statement}
 use Rattle.steps.proofs.aside.write_front.Tie as tie
 
-returns_2 : tie.Need-returns-2
+returns_2 : tie.Need-returns-in-Done
 returns_2 c =
-    let start = c.before.before.before.before.before.before.before.before.before.before.before.before.before.before.before in
+    let start = c.before.before.before.before.before.before.before.before.before.before.before.before.before in
     let s = start.args in
-    front_plain s.right.now s.b s.part.now start.requires.0 start.requires.1 s.bodies.now s.lengths.now (omega (arith, c.before.before.before.before.before.before.before.if1.false, c.before.before.before.before.before.before.before.before.count_of.ensures)) s.out.now _ start.requires.3 (step.Done _) (rw c.before.n.given.1 at c.before.before.before.before.before.write-right.ensures)
+    front_plain s.right.now s.b s.part.now start.requires.0 start.requires.1 s.bodies.now s.lengths.now (omega (arith, c.before.before.before.before.before.if-b-count_of.false, c.before.before.before.before.before.before.count_of.ensures)) s.out.now _ start.requires.3 (step.Done _) (rw c.in-Done.is at c.before.before.before.write_right.ensures)
 
-returns_3 : tie.Need-returns-3
+returns_3 : tie.Need-returns-in-Stuck
 returns_3 c =
-    let start = c.before.before.before.before.before.before.before.before.before.before.before.before.before.before in
+    let start = c.before.before.before.before.before.before.before.before.before.before.before.before.before in
     let s = start.args in
-    front_plain s.right.now s.b s.part.now start.requires.0 start.requires.1 s.bodies.now s.lengths.now (omega (arith, c.before.before.before.before.before.before.if1.false, c.before.before.before.before.before.before.before.count_of.ensures)) s.out.now _ start.requires.3 step.Stuck (rw c.enum_told.given.1 at c.before.before.before.before.write-right.ensures)
+    front_plain s.right.now s.b s.part.now start.requires.0 start.requires.1 s.bodies.now s.lengths.now (omega (arith, c.before.before.before.before.before.if-b-count_of.false, c.before.before.before.before.before.before.count_of.ensures)) s.out.now _ start.requires.3 step.Stuck (rw c.in-Stuck.is at c.before.before.before.write_right.ensures)
 
 pub write_front_spec : {M : Type 1} → statement M
 write_front_spec =

@@ -13,86 +13,86 @@ use Rattle.steps.proofs.Came.{rewrite_root_came_lem}
 use Rattle.steps.proofs.rewrite.rewrite_root.Statement.{statement}
 use Rattle.steps.proofs.rewrite.rewrite_root.Tie as tie
 
-returns : tie.Need-returns
+returns : tie.Need-returns-in-Refused
 returns c =
-    let s = c.before.before.before.before.before.before.before.before.before.before.before.before.args in
-    let e = sym c.before.before.before.ask.ensures ∙ c.before.answer.given.1 in
-    rewrite_root_came_lem s.book.now s.tree.now s.term.now (length s.out.now) _ _ _ (root_refused (length s.out.now) s.book.now s.tree.now s.term.now _ c.before.before.before.before.before.before.clear.ensures _ e) (refused_visits (length s.out.now) s.book.now s.tree.now s.term.now _ e)
+    let s = c.before.before.before.before.before.before.before.before.before.before.args in
+    let e = sym c.before.ask.ensures ∙ c.in-Refused.is in
+    rewrite_root_came_lem s.book.now s.tree.now s.term.now (length s.out.now) _ _ _ (root_refused (length s.out.now) s.book.now s.tree.now s.term.now _ c.before.before.before.before.clear.ensures _ e) (refused_visits (length s.out.now) s.book.now s.tree.now s.term.now _ e)
 
-rewrite_at_requires : tie.Need-rewrite-at-requires
+rewrite_at_requires : tie.Need-rewrite_at-part-requires
 rewrite_at_requires c κs =
-    let s = c.before.before.before.before.before.before.before.before.before.before.before.before.before.before.args in
-    let e = sym c.before.before.before.before.before.ask.ensures ∙ c.before.before.before.enum_told.given.1 in
+    let s = c.before.before.before.before.before.before.before.before.before.before.before.before.before.args in
+    let e = sym c.before.before.before.before.ask.ensures ∙ c.before.before.before.in_default.is in
     let i = is_term s.book.now s.term.now e in
     (good_book s.book.now s.term.now e, term_parted s.term.now i, term_some s.term.now i, (refl, refl), refl)
 
-array_share_prefix_area : tie.Need-array-share-prefix-area
+array_share_prefix_area : tie.Need-slice_bounds-area-end
 array_share_prefix_area c =
-    let part = c.before.before.before.before.before.before.rewrite-at in
-    let s = c.before.before.before.before.before.before.before.before.before.before.before.before.before.before.before.before.before.before.before.before.before.args in
-    let few = root_few s.book.now (part_from s.term.now 0) 0 _ s.out.now (book_walk s.book.now s.tree.now s.term.now) _ (rw c.before.wrote2.given.1 at part.ensures.0) in
-    omega (arith, few, part.auto.1.1.1.1.1.0)
+    let part = c.before.before.before.before.rewrite_at-part in
+    let s = c.before.before.before.before.before.before.before.before.before.before.before.before.before.before.before.before.before.before.args in
+    let few = root_few s.book.now (part_from s.term.now 0) 0 _ s.out.now (book_walk s.book.now s.tree.now s.term.now) _ (rw c.in-Wrote.is at part.ensures.0) in
+    omega (arith, few, part.auto.out)
 
-slice_aggregate_give : tie.Need-slice-aggregate-give
+slice_aggregate_give : tie.Need-slice_bounds-give-end
 slice_aggregate_give c =
-    let part = c.before.before.before.before.before.before.before.rewrite-at in
-    let s = c.before.before.before.before.before.before.before.before.before.before.before.before.before.before.before.before.before.before.before.before.before.before.args in
-    let few = root_few s.book.now (part_from s.term.now 0) 0 _ s.out.now (book_walk s.book.now s.tree.now s.term.now) _ (rw c.before.before.wrote2.given.1 at part.ensures.0) in
-    sym (length-take-le _ _ (omega (arith, few, part.auto.1.1.1.1.1.0)))
+    let part = c.before.before.before.before.before.rewrite_at-part in
+    let s = c.before.before.before.before.before.before.before.before.before.before.before.before.before.before.before.before.before.before.before.args in
+    let few = root_few s.book.now (part_from s.term.now 0) 0 _ s.out.now (book_walk s.book.now s.tree.now s.term.now) _ (rw c.before.in-Wrote.is at part.ensures.0) in
+    sym (length-take-le _ _ (omega (arith, few, part.auto.out)))
 
 give_requires : tie.Need-give-requires
 give_requires c κs =
-    let cleared = c.before.before.before.before.before.before.before.before.before.before.before.before.before.before.before.before.before.clear in
-    cleared.ensures ∙ ap (λ (n : ℕ). replicate n 0) (sym cleared.auto.0)
+    let cleared = c.before.before.before.before.before.before.before.before.before.before.before.before.before.before.clear in
+    cleared.ensures ∙ ap (λ (n : ℕ). replicate n 0) (sym cleared.auto.out)
 
-returns_2 : tie.Need-returns-2
+returns_2 : tie.Need-returns-in-None
 returns_2 c =
-    let s = c.before.before.before.before.before.before.before.before.before.before.before.before.before.before.before.before.before.before.before.before.args in
-    let part = c.before.before.before.before.before.rewrite-at in
-    let e = sym c.before.before.before.before.before.before.before.before.before.before.before.ask.ensures ∙ c.before.before.before.before.before.before.before.before.before.enum_told.given.1 in
+    let s = c.before.before.before.before.before.before.before.before.before.before.before.before.before.before.before.before.before.before.args in
+    let part = c.before.before.before.before.rewrite_at-part in
+    let e = sym c.before.before.before.before.before.before.before.before.before.ask.ensures ∙ c.before.before.before.before.before.before.before.before.in_default.is in
     rewrite_root_came_lem s.book.now s.tree.now s.term.now (length s.out.now) _ _ _
     (root_walked (length s.out.now) s.book.now s.tree.now s.term.now e _ _
-    (root_none s.book.now (part_from s.term.now 0) (length s.out.now) _ _ c.before.before.before.before.before.before.before.before.before.before.before.before.before.before.clear.ensures (book_walk s.book.now s.tree.now s.term.now) (rw c.enum-told2.given.1 at part.ensures.0)))
+    (root_none s.book.now (part_from s.term.now 0) (length s.out.now) _ _ c.before.before.before.before.before.before.before.before.before.before.before.before.clear.ensures (book_walk s.book.now s.tree.now s.term.now) (rw c.in-None.is at part.ensures.0)))
     (walked_visits (length s.out.now) s.book.now s.tree.now s.term.now e _ part.ensures.2)
 
-returns_3 : tie.Need-returns-3
+returns_3 : tie.Need-returns-in-Damaged
 returns_3 c =
-    let s = c.before.before.before.before.before.before.before.before.before.before.before.before.before.before.before.before.before.before.before.before.before.args in
-    let part = c.before.before.before.before.before.before.rewrite-at in
-    let e = sym c.before.before.before.before.before.before.before.before.before.before.before.before.ask.ensures ∙ c.before.before.before.before.before.before.before.before.before.before.enum_told.given.1 in
+    let s = c.before.before.before.before.before.before.before.before.before.before.before.before.before.before.before.before.before.before.args in
+    let part = c.before.before.before.before.rewrite_at-part in
+    let e = sym c.before.before.before.before.before.before.before.before.before.ask.ensures ∙ c.before.before.before.before.before.before.before.before.in_default.is in
     rewrite_root_came_lem s.book.now s.tree.now s.term.now (length s.out.now) _ _ _
     (root_walked (length s.out.now) s.book.now s.tree.now s.term.now e _ _
-    (root_damaged s.book.now (part_from s.term.now 0) (length s.out.now) _ _ c.before.before.before.before.before.before.before.before.before.before.before.before.before.before.before.clear.ensures (book_walk s.book.now s.tree.now s.term.now) _ (rw c.before.wrote.given.1 at part.ensures.0)))
+    (root_damaged s.book.now (part_from s.term.now 0) (length s.out.now) _ _ c.before.before.before.before.before.before.before.before.before.before.before.before.clear.ensures (book_walk s.book.now s.tree.now s.term.now) _ (rw c.in-Damaged.is at part.ensures.0)))
     (walked_visits (length s.out.now) s.book.now s.tree.now s.term.now e _ part.ensures.2)
 
-returns_4 : tie.Need-returns-4
+returns_4 : tie.Need-returns-in-Over
 returns_4 c =
-    let s = c.before.before.before.before.before.before.before.before.before.before.before.before.before.before.before.before.before.before.before.before.args in
-    let part = c.before.before.before.before.before.rewrite-at in
-    let e = sym c.before.before.before.before.before.before.before.before.before.before.before.ask.ensures ∙ c.before.before.before.before.before.before.before.before.before.enum_told.given.1 in
+    let s = c.before.before.before.before.before.before.before.before.before.before.before.before.before.before.before.before.before.before.args in
+    let part = c.before.before.before.before.rewrite_at-part in
+    let e = sym c.before.before.before.before.before.before.before.before.before.ask.ensures ∙ c.before.before.before.before.before.before.before.before.in_default.is in
     rewrite_root_came_lem s.book.now s.tree.now s.term.now (length s.out.now) _ _ _
     (root_walked (length s.out.now) s.book.now s.tree.now s.term.now e _ _
-    (root_over s.book.now (part_from s.term.now 0) (length s.out.now) _ _ c.before.before.before.before.before.before.before.before.before.before.before.before.before.before.clear.ensures (book_walk s.book.now s.tree.now s.term.now) (rw c.enum-told3.given.1 at part.ensures.0)))
+    (root_over s.book.now (part_from s.term.now 0) (length s.out.now) _ _ c.before.before.before.before.before.before.before.before.before.before.before.before.clear.ensures (book_walk s.book.now s.tree.now s.term.now) (rw c.in-Over.is at part.ensures.0)))
     (walked_visits (length s.out.now) s.book.now s.tree.now s.term.now e _ part.ensures.2)
 
-returns_5 : tie.Need-returns-5
+returns_5 : tie.Need-returns-in-Wrote
 returns_5 c =
-    let s = c.before.before.before.before.before.before.before.before.before.before.before.before.before.before.before.before.before.before.before.before.before.before.before.before.before.before.args in
-    let part = c.before.before.before.before.before.before.before.before.before.before.before.rewrite-at in
-    let e = sym c.before.before.before.before.before.before.before.before.before.before.before.before.before.before.before.before.before.ask.ensures ∙ c.before.before.before.before.before.before.before.before.before.before.before.before.before.before.before.enum_told.given.1 in
+    let s = c.before.before.before.before.before.before.before.before.before.before.before.before.before.before.before.before.before.before.before.before.before.before.before.args in
+    let part = c.before.before.before.before.before.before.before.before.before.rewrite_at-part in
+    let e = sym c.before.before.before.before.before.before.before.before.before.before.before.before.before.before.ask.ensures ∙ c.before.before.before.before.before.before.before.before.before.before.before.before.before.in_default.is in
     rewrite_root_came_lem s.book.now s.tree.now s.term.now (length s.out.now) _ _ _
     (root_walked (length s.out.now) s.book.now s.tree.now s.term.now e _ _
-    (root_wrote s.book.now (part_from s.term.now 0) (length s.out.now) _ _ (book_walk s.book.now s.tree.now s.term.now) _ (rw c.before.before.before.before.before.before.wrote2.given.1 at part.ensures.0) _ (rw c.before.before.before.before.before.before.before.before.before.before.before.before.before.before.before.before.before.before.before.before.clear.auto.0 at c.before.before.give.ensures)))
+    (root_wrote s.book.now (part_from s.term.now 0) (length s.out.now) _ _ (book_walk s.book.now s.tree.now s.term.now) _ (rw c.before.before.before.before.before.in-Wrote.is at part.ensures.0) _ (rw c.before.before.before.before.before.before.before.before.before.before.before.before.before.before.before.before.before.clear.auto.out at c.before.before.give.ensures)))
     (walked_visits (length s.out.now) s.book.now s.tree.now s.term.now e _ part.ensures.2)
 
-returns_6 : tie.Need-returns-6
+returns_6 : tie.Need-returns-in-CannotTake
 returns_6 c =
-    let s = c.before.before.before.before.before.before.before.before.before.before.before.before.before.before.before.before.before.before.before.before.before.args in
-    let part = c.before.before.before.before.before.before.rewrite-at in
-    let e = sym c.before.before.before.before.before.before.before.before.before.before.before.before.ask.ensures ∙ c.before.before.before.before.before.before.before.before.before.before.enum_told.given.1 in
+    let s = c.before.before.before.before.before.before.before.before.before.before.before.before.before.before.before.before.before.before.args in
+    let part = c.before.before.before.before.rewrite_at-part in
+    let e = sym c.before.before.before.before.before.before.before.before.before.ask.ensures ∙ c.before.before.before.before.before.before.before.before.in_default.is in
     rewrite_root_came_lem s.book.now s.tree.now s.term.now (length s.out.now) _ _ _
     (root_walked (length s.out.now) s.book.now s.tree.now s.term.now e _ _
-    (root_cannot s.book.now (part_from s.term.now 0) (length s.out.now) _ _ c.before.before.before.before.before.before.before.before.before.before.before.before.before.before.before.clear.ensures (book_walk s.book.now s.tree.now s.term.now) _ (rw c.before.wrote3.given.1 at part.ensures.0)))
+    (root_cannot s.book.now (part_from s.term.now 0) (length s.out.now) _ _ c.before.before.before.before.before.before.before.before.before.before.before.before.clear.ensures (book_walk s.book.now s.tree.now s.term.now) _ (rw c.in-CannotTake.is at part.ensures.0)))
     (walked_visits (length s.out.now) s.book.now s.tree.now s.term.now e _ part.ensures.2)
 
 pub rewrite_root_spec : {M : Type 1} → statement M

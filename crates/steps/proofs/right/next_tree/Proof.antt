@@ -9,7 +9,7 @@ use Rattle.term.proofs.Laws.{suffix, part_short}
 use Rattle.steps.proofs.right.next_tree.Statement.{statement}
 use Rattle.steps.proofs.right.next_tree.Tie as tie
 
-add_result : tie.Need-overflow-add-result
+add_result : tie.Need-overflow_add-result
 add_result c =
     let start = c.before.before.before in
     let s = start.args in

@@ -7,14 +7,14 @@ use Rattle.steps.proofs.Asked.{ask_refused, ask_bad, ask_good}
 use Rattle.steps.proofs.rules.ask.Statement.{statement}
 use Rattle.steps.proofs.rules.ask.Tie as tie
 
-returns : tie.Need-returns
-returns c = let s = c.before.before.before.before.before.before.args in ask_refused (accept s.book.now) (check term_limits s.term.now) _ (sym c.before.before.before.accept-book.ensures ∙ c.before.answer.given.1)
+returns : tie.Need-returns-in-Refused
+returns c = let s = c.before.before.before.before.args in ask_refused (accept s.book.now) (check term_limits s.term.now) _ (sym c.before.accept_book.ensures ∙ c.in-Refused.is)
 
-returns_2 : tie.Need-returns-2
-returns_2 c = let s = c.before.before.before.before.before.before.before.before.args in ask_good (accept s.book.now) (check term_limits s.term.now) (sym c.before.before.before.before.before.accept-book.ensures ∙ c.before.before.before.enum_told.given.1) (sym c.before.before.check_term.ensures ∙ c.enum-told2.given.1)
+returns_2 : tie.Need-returns-in-Good
+returns_2 c = let s = c.before.before.before.before.before.before.args in ask_good (accept s.book.now) (check term_limits s.term.now) (sym c.before.before.before.accept_book.ensures ∙ c.before.before.in_default.is) (sym c.before.check_term.ensures ∙ c.in-Good.is)
 
-returns_3 : tie.Need-returns-3
-returns_3 c = let s = c.before.before.before.before.before.before.before.before.before.args in ask_bad (accept s.book.now) (check term_limits s.term.now) _ (sym c.before.before.before.before.before.before.accept-book.ensures ∙ c.before.before.before.before.enum_told.given.1) (sym c.before.before.before.check_term.ensures ∙ c.before.at.given.1)
+returns_3 : tie.Need-returns-in-Bad
+returns_3 c = let s = c.before.before.before.before.before.before.args in ask_bad (accept s.book.now) (check term_limits s.term.now) _ (sym c.before.before.before.accept_book.ensures ∙ c.before.before.in_default.is) (sym c.before.check_term.ensures ∙ c.in-Bad.is)
 
 pub ask_spec : {M : Type 1} → statement M
 ask_spec =

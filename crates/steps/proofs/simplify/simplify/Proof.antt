@@ -13,32 +13,32 @@ use Rattle.steps.proofs.Came.{simplify_came_lem}
 use Rattle.steps.proofs.simplify.simplify.Statement.{statement}
 use Rattle.steps.proofs.simplify.simplify.Tie as tie
 
-returns : tie.Need-returns
-returns c = let s = c.before.before.before.before.before.before.before.before.before.before.before.before.args in simplify_came_lem s.book.now s.tree.now s.term.now s.budget (length s.out.now) _ _ (simplify_refused (length s.out.now) s.book.now s.tree.now s.term.now s.budget _ _ _ (sym c.before.before.before.ask.ensures ∙ c.before.answer.given.1) refl refl refl c.before.before.before.before.before.before.clear.ensures)
+returns : tie.Need-returns-in-Refused
+returns c = let s = c.before.before.before.before.before.before.before.before.before.before.args in simplify_came_lem s.book.now s.tree.now s.term.now s.budget (length s.out.now) _ _ (simplify_refused (length s.out.now) s.book.now s.tree.now s.term.now s.budget _ _ _ (sym c.before.ask.ensures ∙ c.in-Refused.is) refl refl refl c.before.before.before.before.clear.ensures)
 
-run_requires : tie.Need-run-requires
-run_requires c κs = let s = c.before.before.before.before.before.before.before.before.before.before.before.before.before.before.args in let e = sym c.before.before.before.before.before.ask.ensures ∙ c.before.before.before.enum_told.given.1 in (good_book s.book.now s.term.now e, is_term s.book.now s.term.now e, refl, (refl, refl))
+run_requires : tie.Need-run-ran-requires
+run_requires c κs = let s = c.before.before.before.before.before.before.before.before.before.before.before.before.before.args in let e = sym c.before.before.before.before.ask.ensures ∙ c.before.before.before.in_default.is in (good_book s.book.now s.term.now e, is_term s.book.now s.term.now e, refl, (refl, refl))
 
-array_share_prefix_area : tie.Need-array-share-prefix-area
+array_share_prefix_area : tie.Need-slice_bounds-area-end
 array_share_prefix_area c =
     let far = c.before.before.before in
-    let s = c.before.before.before.before.before.before.before.before.before.before.before.before.before.before.before.before.before.before.args in let few = run_few (simplify_by s.book.now s.tree.now s.budget (tree_of s.term.now)) _ _ far.run.ensures in omega (arith, few, far.run.auto.1.1.1.1.0)
+    let s = c.before.before.before.before.before.before.before.before.before.before.before.before.before.before.before.before.before.args in let few = run_few (simplify_by s.book.now s.tree.now s.budget (tree_of s.term.now)) _ _ far.run-ran.ensures in omega (arith, few, far.run-ran.auto.area)
 
-slice_aggregate_give : tie.Need-slice-aggregate-give
+slice_aggregate_give : tie.Need-slice_bounds-give-end
 slice_aggregate_give c =
     let far = c.before.before.before.before in
-    let s = c.before.before.before.before.before.before.before.before.before.before.before.before.before.before.before.before.before.before.before.args in let few = run_few (simplify_by s.book.now s.tree.now s.budget (tree_of s.term.now)) _ _ far.run.ensures in sym (length-take-le _ _ (omega (arith, few, far.run.auto.1.1.1.1.0)))
+    let s = c.before.before.before.before.before.before.before.before.before.before.before.before.before.before.before.before.before.before.args in let few = run_few (simplify_by s.book.now s.tree.now s.budget (tree_of s.term.now)) _ _ far.run-ran.ensures in sym (length-take-le _ _ (omega (arith, few, far.run-ran.auto.area)))
 
 give_requires : tie.Need-give-requires
 give_requires c κs =
-    let far = c.before.before.before.before.before.before.before.before.before.before.before.before.before.before in
-    far.clear.ensures ∙ ap (λ (n : ℕ). replicate n 0) (sym far.clear.auto.0)
+    let far = c.before.before.before.before.before.before.before.before.before.before.before.before.before in
+    far.clear.ensures ∙ ap (λ (n : ℕ). replicate n 0) (sym far.clear.auto.out)
 
-returns_2 : tie.Need-returns-2
+returns_2 : tie.Need-returns
 returns_2 c =
-    let s = c.before.before.before.before.before.before.before.before.before.before.before.before.before.before.before.before.before.before.before.before.before.before.before.args in
+    let s = c.before.before.before.before.before.before.before.before.before.before.before.before.before.before.before.before.before.before.before.before.before.before.args in
     simplify_came_lem s.book.now s.tree.now s.term.now s.budget (length s.out.now) _ _
-    (simplify_run (length s.out.now) s.book.now s.tree.now s.term.now s.budget _ _ (sym c.before.before.before.before.before.before.before.before.before.before.before.before.before.before.ask.ensures ∙ c.before.before.before.before.before.before.before.before.before.before.before.before.enum_told.given.1) (run_given (length s.out.now) (simplify_by s.book.now s.tree.now s.budget (tree_of s.term.now)) _ _ c.before.before.before.before.before.before.before.before.run.ensures _ _ (rw c.before.before.before.before.before.before.before.before.before.before.before.before.before.before.before.before.before.clear.auto.0 at c.before.before.give.ensures) refl refl))
+    (simplify_run (length s.out.now) s.book.now s.tree.now s.term.now s.budget _ _ (sym c.before.before.before.before.before.before.before.before.before.before.before.before.before.ask.ensures ∙ c.before.before.before.before.before.before.before.before.before.before.before.before.in_default.is) (run_given (length s.out.now) (simplify_by s.book.now s.tree.now s.budget (tree_of s.term.now)) _ _ c.before.before.before.before.before.before.before.before.run-ran.ensures _ _ (rw c.before.before.before.before.before.before.before.before.before.before.before.before.before.before.before.before.clear.auto.out at c.before.before.give.ensures) refl refl))
 
 pub simplify_spec : {M : Type 1} → statement M
 simplify_spec =

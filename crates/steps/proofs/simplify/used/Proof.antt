@@ -5,8 +5,8 @@ use Rattle.steps.specs.Told.Operations.{used_answer, used_size}
 use Rattle.steps.proofs.simplify.used.Statement.{statement}
 use Rattle.steps.proofs.simplify.used.Tie as tie
 
-returns_4 : tie.Need-returns-4
-returns_4 c = (sym (ap used_answer c.before.wrote.given.1), refl, refl, sym (ap (used_size c.before.before.before.args.size) c.before.wrote.given.1))
+returns_4 : tie.Need-returns-in-Damaged
+returns_4 c = (sym (ap used_answer c.in-Damaged.is), refl, refl, sym (ap (used_size c.before.args.size) c.in-Damaged.is))
 
 pub used_spec : {M : Type 1} → statement M
 used_spec =

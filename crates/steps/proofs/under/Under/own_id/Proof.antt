@@ -5,12 +5,12 @@ use Rattle.steps.proofs.Depths.{own_id_is, own_low}
 use Rattle.steps.proofs.under.Under.own_id.Statement.{statement}
 use Rattle.steps.proofs.under.Under.own_id.Tie as tie
 
-sub_result : tie.Need-overflow-sub-result
+sub_result : tie.Need-overflow_sub-result
 sub_result c =
     let start = c.before.before.before in
-    own_low _ start.requires start.args.i (omega (arith, c.before.before.if1.false)) (omega (arith, c.before.if2.false))
+    own_low _ start.requires start.args.i (omega (arith, c.before.before.if-back-eq0.false)) (omega (arith, c.before.if-own-back.false))
 
-returns_3 : tie.Need-returns-3
+returns_3 : tie.Need-returns
 returns_3 c =
     let start = c.before.before.before in
     own_id_is _ start.requires start.args.i

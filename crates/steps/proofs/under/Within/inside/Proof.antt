@@ -7,14 +7,14 @@ use Rattle.steps.specs.declared.under.Within.{Within}
 use Rattle.steps.proofs.under.Within.inside.Statement.{statement}
 use Rattle.steps.proofs.under.Within.inside.Tie as tie
 
-inside_word_requires : tie.Need-inside-word-requires
+inside_word_requires : tie.Need-inside_word-e-requires
 inside_word_requires c κs = c.requires.0
 
-sub_levels : tie.Need-overflow-sub-levels
+sub_levels : tie.Need-overflow_sub-levels
 sub_levels c = omega (arith, c.before.before.requires.1)
 
 returns : tie.Need-returns
-returns c = rw c.before.before.inside-word.ensures refl
+returns c = rw c.before.before.inside_word-e.ensures refl
 
 pub inside_spec : {M : Type 1} → statement M
 inside_spec = tie.close (tie.spec inside_word_requires sub_levels returns)
