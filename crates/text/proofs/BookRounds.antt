@@ -1,7 +1,7 @@
 -- One meaning has one text: the text of an accepted book says its words, and a text that says words is their text.
 use mathlib.Core.Path.{◌≡◌, refl, sym, ap, ◌∙◌}
 use mathlib.Core.Bool.{Bool, true, false}
-use mathlib.Core.List.{List, [], ◌∷◌, ◌++◌, append_assoc, append_nil}
+use mathlib.Core.List.{List, [], ◌∷◌, ◌++◌, append_assoc, append-nil}
 use mathlib.Core.Option.{Option, none, some}
 use Prim.Native.Nat.{ℕ, zero, suc, ◌+◌, ◌*◌, ◌≤◌}
 use native.Mathlib.Omega.{arith}
@@ -184,7 +184,7 @@ SaidBy bs (says ws) = bs ≡ book_text ws
 SaidBy bs (bad_line at) = Unit {0}
 
 alone_are : (bs : List ℕ) (o : Rules) → BookReadIs bs o → SaidBy bs (book_alone o)
-alone_are bs (rules_are ws []) e = e ∙ append_nil (book_text ws)
+alone_are bs (rules_are ws []) e = e ∙ append-nil (book_text ws)
 alone_are bs (rules_are ws (b ∷ rest)) e = tt
 alone_are bs (bad_at at) e = tt
 

@@ -1,7 +1,7 @@
 -- What writing a book writes, for each way through the code: the lines one after the other are the text, and a rule of an accepted book lies where its header says.
 use mathlib.Core.Path.{◌≡◌, refl, sym, ap, ◌∙◌}
 use mathlib.Core.Bool.{Bool, true, false}
-use mathlib.Core.List.{List, [], ◌∷◌, ◌++◌, append_assoc, append_nil}
+use mathlib.Core.List.{List, [], ◌∷◌, ◌++◌, append_assoc, append-nil}
 use mathlib.Core.Option.{Option, none, some}
 use Prim.Native.Nat.{ℕ, suc, ◌+◌, ◌-◌, ◌≤◌, ◌<◌}
 use native.Mathlib.Omega.{arith}
@@ -43,7 +43,7 @@ number_line_wrote out m1 m2 done key at to end n p q e =
 
 pub side_wrote : (out mid done key ws : List ℕ) (at to end : ℕ) → Wrote out at to mid key → Wrote mid to end done (line_text ws) → Wrote out at end done (side_text key ws [])
 unfolding side_text
-side_wrote out mid done key ws at to end p q = rw (append_nil (line_text ws)) (wrote_then out at to end mid done key (line_text ws) p q)
+side_wrote out mid done key ws at to end p q = rw (append-nil (line_text ws)) (wrote_then out at to end mid done key (line_text ws) p q)
 
 -- ---- lengths
 pub number_line_short : (key : List ℕ) (n : ℕ) → n < 100000 → length (number_text key n []) ≤ length key + 6
@@ -140,7 +140,7 @@ rules_next number more ws rest bs text rule e t =
 
 pub rules_done : (number more : ℕ) (ws bs text : List ℕ) → more ≡ 0 → text ≡ bs ++ rules_text number more ws → text ≡ bs
 unfolding rules_text
-rules_done number more ws bs text z t = t ∙ rw (z, append_nil bs)
+rules_done number more ws bs text z t = t ∙ rw (z, append-nil bs)
 
 pub book_judged : (book : List ℕ) → check_book book ≡ Good → (1 ≤ length book) × (get_or book 0 0 ≤ 64) × (judge 0 (get_or book 0 0) (drop 1 book) ≡ Good)
 book_judged [] g = never (let z = check_empty in cc)

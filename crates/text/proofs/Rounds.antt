@@ -1,7 +1,7 @@
 -- One meaning has one text: a term's text says that term, and a text that says words is their text.
 use mathlib.Core.Path.{◌≡◌, refl, sym, ap, ◌∙◌}
 use mathlib.Core.Bool.{Bool, true, false}
-use mathlib.Core.List.{List, [], ◌∷◌, ◌++◌, append_nil}
+use mathlib.Core.List.{List, [], ◌∷◌, ◌++◌, append-nil}
 use mathlib.Core.Option.{none, some}
 use Prim.Native.Nat.{ℕ, ◌+◌, ◌*◌, ◌≤◌}
 use native.Mathlib.Omega.{arith}
@@ -55,7 +55,7 @@ term_said_lem ws g =
     let t = good_tree term_limits (omega arith) ws g in
     let k : Known ws = rw t.same (known_words t.tree t.formed) in
     let s : 1 ≤ length ws = rw t.same (some_words t.tree t.one) in
-    let e : line 4096 (line_text ws) ≡ some (ws, []) = ap (λ (x : List ℕ). line 4096 x) (sym (append_nil (line_text ws))) ∙ line_back 4096 ws [] k s t.short in
+    let e : line 4096 (line_text ws) ≡ some (ws, []) = ap (λ (x : List ℕ). line 4096 x) (sym (append-nil (line_text ws))) ∙ line_back 4096 ws [] k s t.short in
     rw (le-leb (length (line_text ws)) 65536 (omega (arith, line_short ws, t.short)), e)
 
 abbrev SaidBy : List ℕ → Said → Type 0
@@ -88,4 +88,4 @@ term_bytes bs ws e = go (leb (length bs) 65536) refl e
     go false q z = never (cc)
 
 pub said_term : (bs ws : List ℕ) → term_said bs ≡ says ws → bs ≡ line_text ws
-said_term bs ws e = let l : LineWas 4096 bs ws [] = rw e at (said_by bs) in l.same ∙ append_nil (line_text ws)
+said_term bs ws e = let l : LineWas 4096 bs ws [] = rw e at (said_by bs) in l.same ∙ append-nil (line_text ws)

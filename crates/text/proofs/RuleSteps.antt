@@ -1,6 +1,6 @@
 -- What reading rules tells, for each way through the code: each line tells what is left, and the words so far, before those of the rules left, are the rules.
 use mathlib.Core.Path.{◌≡◌, refl, sym, ap, ◌∙◌}
-use mathlib.Core.List.{List, [], ◌∷◌, ◌++◌, append_assoc, append_nil}
+use mathlib.Core.List.{List, [], ◌∷◌, ◌++◌, append_assoc, append-nil}
 use Prim.Native.Nat.{ℕ, suc, ◌+◌, ◌-◌, ◌*◌, ◌≤◌, ◌<◌}
 use native.Mathlib.Omega.{arith}
 use lib.ListN.{length, drop, set, length-append}
@@ -126,7 +126,7 @@ module _ (count : ℕ) (bs : List ℕ) (at : ℕ) where
   module _ (ws : List ℕ) (number a : ℕ) (left : Left ws number a) where
     pub rules_end : count ≤ number → rules_read 0 count (drop at bs) ≡ rules_are ws (drop a bs)
     unfolding rules_read
-    rules_end h = let z : count - number ≡ 0 = omega arith in left ∙ rw (z, append_nil ws)
+    rules_end h = let z : count - number ≡ 0 = omega arith in left ∙ rw (z, append-nil ws)
 
     module _ (h : number < count) where
       one_more_lem : rules_read 0 count (drop at bs) ≡ behind ws (then_rules (rules_read (suc number) (count - (number + 1))) (rule_read number (drop a bs)))

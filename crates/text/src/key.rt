@@ -7,7 +7,7 @@ use crate::number::{Number, read_number};
 use book::limits::MOST_SIDE;
 
 // The offset after a key, or none.
-#[derive(Drop)]
+#[derive(Clone, Copy)]
 pub enum Key {
     After(usize),
     None,

@@ -1,4 +1,6 @@
 // Books and terms as text: document 01's "Text and program".
+#![tactic(auto)]
+
 pub mod book_text;
 pub mod key;
 pub mod lent;

@@ -9,7 +9,7 @@ use crate::token::{Token, read_token, write_token};
 use term::lent::put;
 
 // So many words and the offset after the line, or no such line.
-#[derive(Drop)]
+#[derive(Clone, Copy)]
 pub enum Line {
     Words(usize, usize),
     Bad,

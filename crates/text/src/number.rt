@@ -7,7 +7,7 @@ ghost use Rattle.text.specs.Told.Told.{DigitsTold, NumberTold};
 use crate::lent::put_byte;
 
 // A number and the offset after it, or none.
-#[derive(Drop)]
+#[derive(Clone, Copy)]
 pub enum Number {
     Read(u32, usize),
     None,

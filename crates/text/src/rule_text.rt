@@ -25,14 +25,14 @@ const LEFT_LINE: usize = 5;
 const RIGHT_LINE: usize = 6;
 
 // So many words and the offset after their lines, or the first line that is not in form.
-#[derive(Drop)]
+#[derive(Clone, Copy)]
 pub enum Rules {
     Words(usize, usize),
     Bad(usize),
 }
 
 // A rule's variables and the offset after their line, or the first line that is not in form.
-#[derive(Drop)]
+#[derive(Clone, Copy)]
 pub enum Vars {
     Read(u32, usize),
     Bad(usize),

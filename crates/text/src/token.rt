@@ -14,7 +14,7 @@ use term::word::{
 };
 
 // A word and the offset after its token, or none.
-#[derive(Drop)]
+#[derive(Clone, Copy)]
 pub enum Token {
     Word(u32, usize),
     None,

@@ -6,13 +6,13 @@ use lib.ListN.{replicate}
 use Rattle.text.proofs.book_text.read_book.Statement.{statement}
 use Rattle.text.proofs.book_text.read_book.Tie as tie
 
-read_book_in_requires : tie.Need-read-book-in-requires
+read_book_in_requires : tie.Need-read_book_in-requires
 read_book_in_requires c κs =
     let far = c.before.before.before.before in
-    (refl, far.clear.ensures ∙ ap (λ (k : ℕ). replicate k 0) (sym far.clear.auto.0))
+    (refl, far.clear.ensures ∙ ap (λ (k : ℕ). replicate k 0) (sym far.clear.auto.out))
 
 returns : tie.Need-returns
-returns c = rw c.before.before.before.before.before.before.before.before.clear.auto.0 at c.before.before.before.read-book-in.ensures
+returns c = rw c.before.before.before.before.before.before.before.before.clear.auto.out at c.before.before.before.read_book_in.ensures
 
 pub read_book_spec : {M : Type 1} → statement M
 read_book_spec =

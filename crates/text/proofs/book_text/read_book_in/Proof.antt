@@ -16,62 +16,62 @@ use Rattle.text.proofs.TermTexts.{first_words}
 use Rattle.text.proofs.book_text.read_book_in.Statement.{statement}
 use Rattle.text.proofs.book_text.read_book_in.Tie as tie
 
-returns : tie.Need-returns
+returns : tie.Need-returns-then-text-gt-MOST_BYTES
 returns c =
     let start = c.before.before.before.before in
-    let s = start.args in answer_bad (length s.out.now) s.text.now 0 _ (too_long s.text.now c.if1.true) start.requires.1
+    let s = start.args in answer_bad (length s.out.now) s.text.now 0 _ (too_long s.text.now c.if-text-gt-MOST_BYTES.true) start.requires.1
 
 -- the lines of the book
-lines_told : (c : tie.After-known-told) → RulesTold book_read 8385 c.before.before.before.before.before.before.before.before.before.before.before.args.text.now 0 0 c.before.before.before.before.before.before.before.before.before.before.before.args.work.now c.before.before.before.before.before.read-lines.new.1.1.0 (rules.Words c.before.n.given.0.0 c.before.n.given.0.1.0)
-lines_told c = rw c.before.n.given.1 at c.before.before.before.before.before.read-lines.ensures
+lines_told : (c : tie.In-Words) → RulesTold book_read 8385 c.before.before.before.before.before.before.before.before.before.args.text.now 0 0 c.before.before.before.before.before.before.before.before.before.args.work.now c.before.before.before.read_lines.new.out (rules.Words c.in-Words.n c.in-Words.next)
+lines_told c = rw c.in-Words.is at c.before.before.before.read_lines.ensures
 
 -- its words stand in the work area
-stand : (c : tie.After-known-told) → c.before.n.given.0.0 ≤ length c.before.before.before.before.before.read-lines.new.1.1.0
-stand c = omega (arith, (lines_told c).5, c.before.before.before.before.before.read-lines.auto.1.1.0, c.before.before.before.before.before.before.before.before.before.before.before.requires.0)
+stand : (c : tie.In-Words) → c.in-Words.n ≤ length c.before.before.before.read_lines.new.out
+stand c = omega (arith, (lines_told c).5, c.before.before.before.read_lines.auto.out, c.before.before.before.before.before.before.before.before.before.requires.0)
 
-the_book : (c : tie.After-known-told) → take c.before.n.given.0.0 c.before.before.before.before.before.read-lines.new.1.1.0 ≡ (lines_told c).0
+the_book : (c : tie.In-Words) → take c.in-Words.n c.before.before.before.read_lines.new.out ≡ (lines_told c).0
 the_book c =
     let t = lines_told c in
-    first_words c.before.before.before.before.before.before.before.before.before.before.before.args.work.now t.0 _ _ t.3 t.2 (omega (arith, t.5, c.before.before.before.before.before.before.before.before.before.before.before.requires.0))
+    first_words c.before.before.before.before.before.before.before.before.before.args.work.now t.0 _ _ t.3 t.2 (omega (arith, t.5, c.before.before.before.before.before.before.before.before.before.requires.0))
 
-slice_aggregate_line_after : tie.Need-slice-aggregate-line-after
-slice_aggregate_line_after c = sym (length-take-le _ c.before.before.before.before.before.before.before.read-lines.new.1.1.0 (stand c.before.before))
+slice_aggregate_line_after : tie.Need-slice_bounds-line_after-end-then-next-text
+slice_aggregate_line_after c = sym (length-take-le _ c.before.before.before.before.read_lines.new.out (stand c.before))
 
-line_after_requires : tie.Need-line-after-requires
+line_after_requires : tie.Need-line_after-requires
 line_after_requires c κs =
-    let far = c.before.before in
+    let far = c.before in
     let b = book_counted _ _ _ (lines_told far).1 in
     (rw (the_book far) b.0, rw (the_book far) b.1)
 
-returns_2 : tie.Need-returns-2
+returns_2 : tie.Need-returns-then-next-text
 returns_2 c =
-    let start = c.before.before.before.before.before.before.before.before.before.before.before.before.before.before in
-    let far = c.before.before.before in
+    let start = c.before.before.before.before.before.before.before.before.before.before.before in
+    let far = c.before.before in
     let s = start.args in
     let t = lines_told far in
     answer_bad (length s.out.now) s.text.now _ _
-    (more_lines s.text.now c.before.before.before.before.before.before.before.before.before.before.if1.false t.0 c.before.before.before.before.n.given.0.1.0 t.1 c.before.before.if2.true ∙ ap (λ (k : ℕ). bad_line k) (sym (c.line_after.ensures ∙ ap (λ (x : List ℕ). due_after x) (the_book far)))) start.requires.1
+    (more_lines s.text.now c.before.before.before.before.before.before.before.if-text-gt-MOST_BYTES.false t.0 c.before.before.in-Words.next t.1 c.before.if-next-text.true ∙ ap (λ (k : ℕ). bad_line k) (sym (c.line_after.ensures ∙ ap (λ (x : List ℕ). due_after x) (the_book far)))) start.requires.1
 
-slice_aggregate_accept_book : tie.Need-slice-aggregate-accept-book
-slice_aggregate_accept_book c = sym (length-take-le _ c.before.before.before.before.before.before.before.read-lines.new.1.1.0 (stand c.before.before))
+slice_aggregate_accept_book : tie.Need-slice_bounds-accept_book-end-in-Words
+slice_aggregate_accept_book c = sym (length-take-le _ c.before.before.before.before.read_lines.new.out (stand c.before))
 
-slice_aggregate_give : tie.Need-slice-aggregate-give
-slice_aggregate_give c = sym (length-take-le _ c.before.before.before.before.before.before.before.before.before.read-lines.new.1.1.0 (stand c.before.before.before.before))
+slice_aggregate_give : tie.Need-slice_bounds-give-end-in-Words
+slice_aggregate_give c = sym (length-take-le _ c.before.before.before.before.before.read_lines.new.out (stand c.before.before))
 
-returns_3 : tie.Need-returns-3
+returns_3 : tie.Need-returns-else-next-text
 returns_3 c =
-    let far = c.before.before.before.before.before.before.before.before.before in
-    let far2 = c.before.before.before.before.before.before.before.before in
-    let s = c.before.before.before.before.before.before.before.before.before.before.before.before.before.before.before.before.before.before.before.args in
+    let far = c.before.before.before.before.before.before in
+    let far2 = c.before.before.before.before.before.before in
+    let s = c.before.before.before.before.before.before.before.before.before.before.before.before.before.before.before.args in
     let t = lines_told far2 in
-    read_given (length s.out.now) s.text.now t.0 (take far.n.given.0.0 c.before.before.before.before.before.before.before.before.before.before.before.before.before.read-lines.new.1.1.0) _ _
-    (no_more s.text.now c.before.before.before.before.before.before.before.before.before.before.before.before.before.before.before.if1.false t.0 far.n.given.0.1.0 t.1 c.before.before.before.before.before.before.before.if2.false) (the_book far2) (rw c.before.before.before.before.before.accept-book.ensures at c.before.before.give.ensures)
+    read_given (length s.out.now) s.text.now t.0 (take far.in-Words.n c.before.before.before.before.before.before.before.before.before.read_lines.new.out) _ _
+    (no_more s.text.now c.before.before.before.before.before.before.before.before.before.before.before.if-text-gt-MOST_BYTES.false t.0 far.in-Words.next t.1 c.before.before.before.before.before.if-next-text.false) (the_book far2) (rw c.before.before.before.before.accept_book-accepted.ensures at c.before.before.give.ensures)
 
-returns_4 : tie.Need-returns-4
+returns_4 : tie.Need-returns-in-Bad
 returns_4 c =
-    let start = c.before.before.before.before.before.before.before.before.before.before.before in
+    let start = c.before.before.before.before.before.before.before.before.before in
     let s = start.args in
-    answer_bad (length s.out.now) s.text.now c.before.line.given.0.0 _ (bad_line_lem s.text.now c.before.before.before.before.before.before.before.if1.false _ (rw c.before.line.given.1 at c.before.before.before.before.before.read-lines.ensures)) start.requires.1
+    answer_bad (length s.out.now) s.text.now c.in-Bad.line _ (bad_line_lem s.text.now c.before.before.before.before.before.if-text-gt-MOST_BYTES.false _ (rw c.in-Bad.is at c.before.before.before.read_lines.ensures)) start.requires.1
 
 pub read_book_in_spec : {M : Type 1} → statement M
 read_book_in_spec =
@@ -88,7 +88,7 @@ read_book_in_spec =
     (λ c. stand c.before)
     slice_aggregate_accept_book
     (λ c κs. search rules)
-    (λ c. stand c.before.before.before)
+    (λ c. stand c.before.before)
     slice_aggregate_give
     (λ c κs. search rules)
     (λ c. search rules)

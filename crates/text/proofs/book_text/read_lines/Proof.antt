@@ -11,62 +11,60 @@ use Rattle.text.proofs.BookAnswers.{no_book_lem, no_count, no_rules, all_rules}
 use Rattle.text.proofs.book_text.read_lines.Statement.{statement}
 use Rattle.text.proofs.book_text.read_lines.Tie as tie
 
-returns : tie.Need-returns
-returns c = let s = c.before.before.before.before.before.before.args in no_book_lem s.text.now s.at (rw c.enum_told.given.1 at c.before.before.read-key.ensures)
+returns : tie.Need-returns-in_default
+returns c = let s = c.before.before.before.before.before.before.args in no_book_lem s.text.now s.at (rw c.in_default.is at c.before.read_key.ensures)
 
 -- the line `book=1`
-key_told : (c : tie.After-known-told) → KeyTold book_line c.before.before.before.before.before.before.before.args.text.now c.before.before.before.before.before.before.before.args.at (keys.After c.before.count_at.given.0.0)
-key_told c = rw c.before.count_at.given.1 at c.before.before.before.read-key.ensures
+key_told : (c : tie.In-After) → KeyTold book_line c.before.before.before.before.before.before.args.text.now c.before.before.before.before.before.before.args.at (keys.After c.in-After.count_at)
+key_told c = rw c.in-After.is at c.before.read_key.ensures
 
-read_number_line_requires : tie.Need-read-number-line-requires
-read_number_line_requires c κs = ((key_told c.before).2, omega arith)
+read_number_line_requires : tie.Need-read_number_line-requires
+read_number_line_requires c κs = ((key_told c.before.before).2, omega arith)
 
-returns_2 : tie.Need-returns-2
+returns_2 : tie.Need-returns-in_default-read_number_line
 returns_2 c =
-    let s = c.before.before.before.before.before.before.before.before.before.before.before.args in
-    no_count s.text.now s.at c.before.before.before.before.before.count_at.given.0.0 (key_told c.before.before.before.before).0 (rw c.enum-told2.given.1 at c.before.before.read-number-line.ensures)
+    let s = c.before.before.before.before.before.before.before.before.before.before.args in
+    no_count s.text.now s.at c.before.before.before.before.in-After.count_at (key_told c.before.before.before.before).0 (rw c.in_default-read_number_line.is at c.before.read_number_line.ensures)
 
 -- the line `rules=`
-count_told : (c : tie.After-known-told2) → NumberLineTold rules_key 64 c.before.before.before.before.before.before.before.before.before.before.before.before.args.text.now c.before.before.before.before.before.before.count_at.given.0.0 (numbers.Read c.before.count.given.0.0 c.before.count.given.0.1.0)
-count_told c = rw c.before.count.given.1 at c.before.before.before.read-number-line.ensures
+count_told : (c : tie.In-Read) → NumberLineTold rules_key 64 c.before.before.before.before.before.before.before.before.before.before.args.text.now c.before.before.before.before.in-After.count_at (numbers.Read c.in-Read.count c.in-Read.rules_at)
+count_told c = rw c.in-Read.is at c.before.read_number_line.ensures
 
-read_rules_requires : tie.Need-read-rules-requires
+read_rules_requires : tie.Need-read_rules-requires
 read_rules_requires c κs =
     let far = c.before.before.before.before.before in
     ((count_told far).3, (count_told far).1)
 
 -- the rules, behind their number
-rules_told : (c : tie.After-known-told3) → RulesTold (rules_read 0 c.before.before.before.before.before.before.before.before.before.before.before.before.count.given.0.0) 8384 c.before.before.before.before.before.before.before.before.before.before.before.before.before.before.before.before.before.before.before.before.before.before.before.args.text.now c.before.before.before.before.before.before.before.before.before.before.before.before.count.given.0.1.0 1 c.before.before.before.before.before.before.before.before.before.put.new.0 c.before.before.before.before.before.read-rules.new.1.1.1.0 (rules.Words c.before.n.given.0.0 c.before.n.given.0.1.0)
-rules_told c = rw c.before.n.given.1 at c.before.before.before.before.before.read-rules.ensures
+rules_told : (c : tie.In-Words) → RulesTold (rules_read 0 c.before.before.before.before.before.before.before.before.before.in-Read.count) 8384 c.before.before.before.before.before.before.before.before.before.before.before.before.before.before.before.before.before.before.before.args.text.now c.before.before.before.before.before.before.before.before.before.in-Read.rules_at 1 c.before.before.before.before.before.before.before.put.new.out c.before.before.before.read_rules.new.out (rules.Words c.in-Words.n c.in-Words.next)
+rules_told c = rw c.in-Words.is at c.before.before.before.read_rules.ensures
 
-add_t26 : tie.Need-overflow-add-t26
+add_t26 : tie.Need-overflow_add-result
 add_t26 c = omega (arith, (rules_told c).5)
 
-returns_3 : tie.Need-returns-3
+returns_3 : tie.Need-returns-in-Words
 returns_3 c =
-    let far = c.before.before.before.before.before.before.before.before.before.before.before.before in
-    let far2 = c.before.before.before.before.before.before.before.before.before in
-    let s = c.before.before.before.before.before.before.before.before.before.before.before.before.before.before.before.before.before.before.before.before.before.before.before.args in
-    all_rules s.text.now s.at c.before.before.before.before.before.before.before.before.before.before.before.before.before.before.before.before.before.count_at.given.0.0 (key_told c.before.before.before.before.before.before.before.before.before.before.before.before.before.before.before.before).0 far.count.given.0.0 far.count.given.0.1.0 (count_told c.before.before.before.before.before.before.before.before.before.before.before).0
-    s.out.now far2.put.new.0 _ c.before.n.given.0.0 c.before.n.given.0.1.0 far2.put.ensures (rules_told c)
+    let far = c.before.before.before.before.before.before.before.before.before in
+    let far2 = c.before.before.before.before.before.before.before in
+    let s = c.before.before.before.before.before.before.before.before.before.before.before.before.before.before.before.before.before.before.before.args in
+    all_rules s.text.now s.at c.before.before.before.before.before.before.before.before.before.before.before.before.before.in-After.count_at (key_told c.before.before.before.before.before.before.before.before.before.before.before.before.before).0 far.in-Read.count far.in-Read.rules_at (count_told c.before.before.before.before.before.before.before.before.before).0
+    s.out.now far2.put.new.out _ c.in-Words.n c.in-Words.next far2.put.ensures (rules_told c)
 
-returns_4 : tie.Need-returns-4
+returns_4 : tie.Need-returns-in-Bad
 returns_4 c =
-    let far = c.before.before.before.before.before.before.before.before.before.before.before.before in
-    let s = c.before.before.before.before.before.before.before.before.before.before.before.before.before.before.before.before.before.before.before.before.before.before.before.args in
-    no_rules s.text.now s.at c.before.before.before.before.before.before.before.before.before.before.before.before.before.before.before.before.before.count_at.given.0.0 (key_told c.before.before.before.before.before.before.before.before.before.before.before.before.before.before.before.before).0 far.count.given.0.0 far.count.given.0.1.0 (count_told c.before.before.before.before.before.before.before.before.before.before.before).0 _
-    (rw c.before.line.given.1 at c.before.before.before.before.before.read-rules.ensures)
+    let far = c.before.before.before.before.before.before.before.before.before in
+    let s = c.before.before.before.before.before.before.before.before.before.before.before.before.before.before.before.before.before.before.before.args in
+    no_rules s.text.now s.at c.before.before.before.before.before.before.before.before.before.before.before.before.before.in-After.count_at (key_told c.before.before.before.before.before.before.before.before.before.before.before.before.before).0 far.in-Read.count far.in-Read.rules_at (count_told c.before.before.before.before.before.before.before.before.before).0 _
+    (rw c.in-Bad.is at c.before.before.before.read_rules.ensures)
 
 pub read_lines_spec : {M : Type 1} → statement M
 read_lines_spec =
     tie.close
     (tie.spec
-    (λ c. search rules)
     (λ c κs. search rules)
     (λ c. search rules)
     (λ c. search rules)
     returns
-    (λ c. search rules)
     read_number_line_requires
     (λ c. search rules)
     (λ c. search rules)

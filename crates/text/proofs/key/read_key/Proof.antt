@@ -8,41 +8,41 @@ use Rattle.text.proofs.KeySteps.{Rest, key_ends, key_runs_out, key_differs, key_
 use Rattle.text.proofs.key.read_key.Statement.{statement}
 use Rattle.text.proofs.key.read_key.Tie as tie
 
-abbrev invariant-loop : tie.invariant-loop
-invariant-loop text at key a₀ i₀ a i = (at ≤ a) × (a ≤ length text) × (i ≤ length key) × Rest key text at i a
+abbrev invariant-loop-i : tie.invariant-loop-i
+invariant-loop-i text at key a₀ i₀ a i = (at ≤ a) × (a ≤ length text) × (i ≤ length key) × Rest key text at i a
 
-abbrev decreases-loop : tie.decreases-loop
-decreases-loop text at key a₀ i₀ a i = length key - i
+abbrev decreases-loop-i : tie.decreases-loop-i
+decreases-loop-i text at key a₀ i₀ a i = length key - i
 
-returns : tie.Need-returns invariant-loop decreases-loop
+returns : tie.Need-returns-then-text-a invariant-loop-i decreases-loop-i
 returns c =
     let s = c.before.before.before.args in
-    let q = c.before.before.loop in
-    key_runs_out s.key.now s.text.now s.at q.i q.a q.invariant.3 c.before.loop-test.true c.if1.true
+    let q = c.before.before.loop-i in
+    key_runs_out s.key.now s.text.now s.at q.i q.a q.invariant.3 c.before.loop-i-test.true c.if-text-a.true
 
-returns_2 : tie.Need-returns-2 invariant-loop decreases-loop
+returns_2 : tie.Need-returns-then-text-a-2 invariant-loop-i decreases-loop-i
 returns_2 c =
     let s = c.before.before.before.before.before.before.args in
-    let q = c.before.before.before.before.before.loop in
-    key_differs s.key.now s.text.now s.at q.i q.a q.invariant.3 c.before.before.before.before.loop-test.true c.before.before.before.if1.false c.if2.true
+    let q = c.before.before.before.before.before.loop-i in
+    key_differs s.key.now s.text.now s.at q.i q.a q.invariant.3 c.before.before.before.before.loop-i-test.true c.before.before.before.if-text-a.false c.if-text-a-2.true
 
-loop_again : tie.Need-loop-preserved invariant-loop decreases-loop
+loop_again : tie.Need-loop-i-preserved invariant-loop-i decreases-loop-i
 loop_again c =
     let far = c.before.before.before in
     let s = c.before.before.before.before.before.before.args in
-    let q = c.before.before.before.before.before.loop in
-    (omega arith, omega (arith, far.if1.false), omega arith, key_next s.key.now s.text.now s.at q.i q.a q.invariant.3 c.before.before.before.before.loop-test.true far.if1.false c.if2.false)
+    let q = c.before.before.before.before.before.loop-i in
+    (omega arith, omega (arith, far.if-text-a.false), omega arith, key_next s.key.now s.text.now s.at q.i q.a q.invariant.3 c.before.before.before.before.loop-i-test.true far.if-text-a.false c.if-text-a-2.false)
 
-returns_3 : tie.Need-returns-3 invariant-loop decreases-loop
+returns_3 : tie.Need-returns invariant-loop-i decreases-loop-i
 returns_3 c =
     let s = c.before.before.args in
-    let q = c.before.loop in
-    (key_ends s.key.now s.text.now s.at q.i q.a q.invariant.3 c.loop-test.false, q.invariant.0, q.invariant.1)
+    let q = c.before.loop-i in
+    (key_ends s.key.now s.text.now s.at q.i q.a q.invariant.3 c.loop-i-test.false, q.invariant.0, q.invariant.1)
 
 pub read_key_spec : {M : Type 1} → statement M
 read_key_spec =
     tie.close
-    (tie.spec invariant-loop decreases-loop
+    (tie.spec invariant-loop-i decreases-loop-i
     (λ c. (omega arith, omega arith, omega arith, refl))
     returns
     (λ c. omega arith)

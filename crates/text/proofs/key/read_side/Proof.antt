@@ -5,16 +5,16 @@ use Rattle.text.proofs.KeySteps.{no_side, side_there}
 use Rattle.text.proofs.key.read_side.Statement.{statement}
 use Rattle.text.proofs.key.read_side.Tie as tie
 
-returns : tie.Need-returns
+returns : tie.Need-returns-in_default
 returns c =
-    let s = c.before.before.before.before.before.before.args in no_side s.key.now s.text.now s.at s.to s.out.now s.out.now (rw c.enum_told.given.1 at c.before.before.read-key.ensures)
+    let s = c.before.before.before.before.before.args in no_side s.key.now s.text.now s.at s.to s.out.now s.out.now (rw c.in_default.is at c.before.read_key.ensures)
 
-returns_2 : tie.Need-returns-2
+returns_2 : tie.Need-returns
 returns_2 c =
-    let far = c.before.before.before.before.before in
+    let far = c.before.before.before.before in
     let far2 = c.before.before in
-    let s = c.before.before.before.before.before.before.before.before.before.before.before.args in
-    side_there s.key.now s.text.now s.at s.to s.out.now far2.read-line.new.1.1.1.0 far.a.given.0.0 far2.read-line.result (rw far.a.given.1 at c.before.before.before.before.before.before.before.read-key.ensures) far2.read-line.ensures
+    let s = c.before.before.before.before.before.before.before.before.before.args in
+    side_there s.key.now s.text.now s.at s.to s.out.now far2.read_line.new.out far.in-After.a far2.read_line.result (rw far.in-After.is at c.before.before.before.before.before.read_key.ensures) far2.read_line.ensures
 
 pub read_side_spec : {M : Type 1} → statement M
 read_side_spec =

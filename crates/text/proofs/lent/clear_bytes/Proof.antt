@@ -2,38 +2,38 @@
 use native.Mathlib.Omega.{arith}
 use borrow.Author.Fill.{fill_none, fill_more}
 use mathlib.Core.Path.{◌≡◌, refl, ◌∙◌}
-use mathlib.Core.List.{◌++◌, append_nil}
+use mathlib.Core.List.{◌++◌, append-nil}
 use Prim.Native.Nat.{ℕ, ◌-◌, ◌≤◌}
 use lib.ListN.{length, drop, replicate, length-set, drop_of_length-le}
 use Rattle.text.proofs.lent.clear_bytes.Statement.{statement}
 use Rattle.text.proofs.lent.clear_bytes.Tie as tie
 
-abbrev invariant-loop : tie.invariant-loop
-invariant-loop out₀ i₀ out i = (i ≤ length out₀) × (length out ≡ length out₀) × (out ≡ replicate i 0 ++ drop i out₀)
+abbrev invariant-loop-i : tie.invariant-loop-i
+invariant-loop-i out₀ i₀ out i = (i ≤ length out₀) × (length out ≡ length out₀) × (out ≡ replicate i 0 ++ drop i out₀)
 
-abbrev decreases-loop : tie.decreases-loop
-decreases-loop out₀ i₀ out i = length out - i
+abbrev decreases-loop-i : tie.decreases-loop-i
+decreases-loop-i out₀ i₀ out i = length out - i
 
-loop_again : tie.Need-loop-preserved invariant-loop decreases-loop
+loop_again : tie.Need-loop-i-preserved invariant-loop-i decreases-loop-i
 loop_again c =
-    let q = c.before.loop in (omega arith, simp length-set q.invariant.1, rw q.invariant.2 (fill_more q.i 0 _ (omega arith)))
+    let q = c.before.loop-i in (omega arith, simp length-set q.invariant.1, rw q.invariant.2 (fill_more q.i 0 _ (omega arith)))
 
-returns : tie.Need-returns invariant-loop decreases-loop
+returns : tie.Need-returns invariant-loop-i decreases-loop-i
 returns c =
     let start = c.before.before in
-    let q = c.before.loop in
+    let q = c.before.loop-i in
     let e : q.i ≡ length start.args.out.now = omega arith in
     q.invariant.2
-    ∙ rw (e, drop_of_length-le start.args.out.now {i = length start.args.out.now} (omega arith), append_nil)
+    ∙ rw (e, drop_of_length-le start.args.out.now {i = length start.args.out.now} (omega arith), append-nil)
 
 pub clear_bytes_spec : {M : Type 1} → statement M
 clear_bytes_spec =
     tie.close
-    (tie.spec invariant-loop decreases-loop
+    (tie.spec invariant-loop-i decreases-loop-i
     (λ c. (omega arith, refl, fill_none _ 0))
     (λ c. omega arith)
     (λ c. omega arith)
     (λ c. rw length-set (omega arith))
     loop_again
-    (λ c. c.before.loop.invariant.1)
+    (λ c. c.before.loop-i.invariant.1)
     returns)

@@ -5,8 +5,8 @@ use lib.Seq.{set_out}
 use Rattle.text.proofs.lent.put_byte.Statement.{statement}
 use Rattle.text.proofs.lent.put_byte.Tie as tie
 
-returns_2 : tie.Need-returns-2
-returns_2 c = sym (set_out _ _ _ c.if1.false)
+returns_2 : tie.Need-returns-else-at-out
+returns_2 c = sym (set_out _ _ _ c.if-at-out.false)
 
 pub put_byte_spec : {M : Type 1} → statement M
 put_byte_spec = tie.close (tie.spec (λ c. search rules) (λ c. search rules) (λ c. search rules) returns_2)

@@ -13,26 +13,26 @@ use Rattle.text.proofs.Wrote.{wrote_then, wrote_byte}
 use Rattle.text.proofs.line.write_line.Statement.{statement}
 use Rattle.text.proofs.line.write_line.Tie as tie
 
-returns : tie.Need-returns
+returns : tie.Need-returns-then-words-eq0
 returns c =
-    let s = c.before.before.before.before.before.before.before.args in rw (no_words s.words.now c.before.before.before.before.if1.true) (wrote_byte s.out.now s.at 10 _ c.before.before.put_byte.ensures)
+    let s = c.before.before.before.before.before.before.before.args in rw (no_words s.words.now c.before.before.before.before.if-words-eq0.true) (wrote_byte s.out.now s.at 10 _ c.before.before.put_byte.ensures)
 
-write_rest_requires : tie.Need-write-rest-requires
+write_rest_requires : tie.Need-write_rest-requires
 write_rest_requires c κs =
     let start = c.before.before.before.before.before.before.before.before.before.before in
     let s = start.args in (
       rw (suffix 1 s.words.now, length-drop 1 s.words.now) (omega (arith, start.requires)),
-      omega (arith, c.before.before.before.before.write-token.ensures.0, word_short (get_or s.words.now 0 0), start.requires),
+      omega (arith, c.before.before.before.before.write_token-to.ensures.0, word_short (get_or s.words.now 0 0), start.requires),
     )
 
-returns_2 : tie.Need-returns-2
+returns_2 : tie.Need-returns
 returns_2 c =
     let far = c.before.before.before.before.before.before.before in
     let s = c.before.before.before.before.before.before.before.before.before.before.before.before.before.args in
-    let h : length s.words.now ≡ 0 → ⊥ = c.before.before.before.before.before.before.before.before.before.before.if1.false in
+    let h : length s.words.now ≡ 0 → ⊥ = c.before.before.before.before.before.before.before.before.before.before.if-words-eq0.false in
     rw (first_rest s.words.now (omega (arith, h)))
-    (wrote_then s.out.now s.at _ _ far.write-token.new.0 _ (word_text (get_or s.words.now 0 0)) (rest_text (drop 1 s.words.now)) far.write-token.ensures
-    (rw (suffix 1 s.words.now) at c.before.before.write-rest.ensures))
+    (wrote_then s.out.now s.at _ _ far.write_token-to.new.out _ (word_text (get_or s.words.now 0 0)) (rest_text (drop 1 s.words.now)) far.write_token-to.ensures
+    (rw (suffix 1 s.words.now) at c.before.before.write_rest.ensures))
 
 pub write_line_spec : {M : Type 1} → statement M
 write_line_spec =

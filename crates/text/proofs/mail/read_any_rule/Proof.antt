@@ -9,22 +9,22 @@ use Rattle.text.proofs.RuleSteps.{rule_there}
 use Rattle.text.proofs.mail.read_any_rule.Statement.{statement}
 use Rattle.text.proofs.mail.read_any_rule.Tie as tie
 
-told : (c : tie.After-known-told) → VarsTold (any_rule_read c.before.before.before.before.before.before.args.position) c.before.before.before.before.before.before.args.position c.before.before.before.before.before.before.args.text.now c.before.before.before.before.before.before.args.at (vars.Read c.before.vars.given.0.0 c.before.vars.given.0.1.0)
-told c = rw c.before.vars.given.1 at c.before.before.before.read-any-vars.ensures
+told : (c : tie.In-Read) → VarsTold (any_rule_read c.before.before.before.before.args.position) c.before.before.before.before.args.position c.before.before.before.before.args.text.now c.before.before.before.before.args.at (vars.Read c.in-Read.vars c.in-Read.next)
+told c = rw c.in-Read.is at c.before.read_any_vars.ensures
 
-read_sides_requires : tie.Need-read-sides-requires
+read_sides_requires : tie.Need-read_sides-requires
 read_sides_requires c κs =
-    let start = c.before.before.before.before.before.before.before in
+    let start = c.before.before.before.before.before in
     ((told c.before).1, start.requires.1, start.requires.2)
 
-returns : tie.Need-returns
+returns : tie.Need-returns-in-Read
 returns c =
     let far = c.before.before in
-    let s = c.before.before.before.before.before.before.before.before.before.before.args in
-    rule_there (any_rule_read s.position) s.position _ s.text.now s.at c.before.before.before.before.before.vars.given.0.1.0 s.to s.out.now far.read-sides.new.1.1.1.1.0 far.read-sides.result (told c.before.before.before.before) far.read-sides.ensures
+    let s = c.before.before.before.before.before.before.before.before.args in
+    rule_there (any_rule_read s.position) s.position _ s.text.now s.at c.before.before.before.before.in-Read.next s.to s.out.now far.read_sides.new.out far.read_sides.result (told c.before.before.before.before) far.read_sides.ensures
 
-returns_2 : tie.Need-returns-2
-returns_2 c = rw c.before.line.given.1 at c.before.before.before.read-any-vars.ensures
+returns_2 : tie.Need-returns-in-Bad
+returns_2 c = rw c.in-Bad.is at c.before.read_any_vars.ensures
 
 pub read_any_rule_spec : {M : Type 1} → statement M
 read_any_rule_spec =

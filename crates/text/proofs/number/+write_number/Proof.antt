@@ -26,22 +26,22 @@ below t = and 1 kinds.ps (falls 1 kinds.ps ◌<◌ falling t) own.Pre
 abbrev calls : ℕ → lts.Claims
 calls t = (put-byte-reads.Asked, put-byte-reads.Learnt, below t, own.Post)
 
-returns : (t : ℕ) → lts.Need-returns (calls t) (at_most t) own.Post
-returns t c = let s = c.before.before.before.before.before.before.args in one_digit s.out.now s.at s.n _ c.before.before.before.before.if1.true c.before.before.put_byte.ensures
+returns : (t : ℕ) → lts.Need-returns-then-n-lt-BASE (calls t) (at_most t) own.Post
+returns t c = let s = c.before.before.before.before.before.before.args in one_digit s.out.now s.at s.n _ c.before.before.before.before.if-n-lt-BASE.true c.before.before.put_byte.ensures
 
-write_number_requires : (t : ℕ) → lts.Need-write-number-requires (calls t) (at_most t) own.Post
-write_number_requires t c κs = let s = c.before.before.before in (omega (arith, s.requires.0, c.before.if1.false), s.requires.1)
+write_number_requires : (t : ℕ) → lts.Need-write_number-last-requires (calls t) (at_most t) own.Post
+write_number_requires t c κs = let s = c.before.before.before in (omega (arith, s.requires.0, c.before.if-n-lt-BASE.false), s.requires.1)
 
-add_result_2 : (t : ℕ) → lts.Need-overflow-add-result-2 (calls t) (at_most t) own.Post
-add_result_2 t c = let s = c.before.before.before.before.before.before.before.before.before.before in omega (arith, c.before.before.before.before.before.before.write-number.ensures.0, decimal_few (s.args.n / 10), s.requires.1)
+add_result_2 : (t : ℕ) → lts.Need-overflow_add-result-2 (calls t) (at_most t) own.Post
+add_result_2 t c = let s = c.before.before.before.before.before.before.before.before.before.before in omega (arith, c.before.before.before.before.before.before.write_number-last.ensures.0, decimal_few (s.args.n / 10), s.requires.1)
 
-returns_2 : (t : ℕ) → lts.Need-returns-2 (calls t) (at_most t) own.Post
+returns_2 : (t : ℕ) → lts.Need-returns (calls t) (at_most t) own.Post
 returns_2 t c =
     let s = c.before.before.before.before.before.before.before.before.before.before.args in
-    more_digits s.out.now s.at _ s.n _ _ c.before.before.before.before.before.before.before.before.if1.false c.before.before.before.before.before.before.write-number.ensures c.before.before.put-byte2.ensures
+    more_digits s.out.now s.at _ s.n _ _ c.before.before.before.before.before.before.before.before.if-n-lt-BASE.false c.before.before.before.before.before.before.write_number-last.ensures c.before.before.put_byte-2.ensures
 
-pub +write-number-spec : {M : Type 1} → statement M
-+write-number-spec = close falling λ t. lts.spec (calls t) (at_most t) own.Post
+pub +write_number_spec : {M : Type 1} → statement M
++write_number_spec = close falling λ t. lts.spec (calls t) (at_most t) own.Post
     (λ c. omega arith)
     (λ c. omega arith)
     (λ c κs. search rules)

@@ -7,23 +7,23 @@ use Rattle.text.proofs.Digits.{nothing_there, no_digit, zero_there, number_told}
 use Rattle.text.proofs.number.read_number.Statement.{statement}
 use Rattle.text.proofs.number.read_number.Tie as tie
 
-returns : tie.Need-returns
-returns c = let s = c.before.before.args in nothing_there s.most s.text.now s.at c.if1.true
+returns : tie.Need-returns-then-text-at
+returns c = let s = c.before.before.args in nothing_there s.most s.text.now s.at c.if-text-at.true
 
-returns_2 : tie.Need-returns-2
+returns_2 : tie.Need-returns-then-not-is_digit
 returns_2 c =
-    let s = c.before.before.before.before.before.args in no_digit s.most s.text.now s.at c.before.before.before.if1.false (sym c.before.is_digit.ensures ∙ not-true _ c.if2.true)
+    let s = c.before.before.before.before.before.args in no_digit s.most s.text.now s.at c.before.before.before.if-text-at.false (sym c.before.is_digit.ensures ∙ not-true _ c.if-not-is_digit.true-raw)
 
-returns_3 : tie.Need-returns-3
+returns_3 : tie.Need-returns-then-b-eq-ZERO
 returns_3 c =
     let far = c.before.before.before.before in
     let s = c.before.before.before.before.before.before.args in
-    (zero_there s.most s.text.now s.at far.if1.false (sym c.before.before.is_digit.ensures ∙ not-false _ c.before.if2.false) c.if3.true, omega arith, omega arith, omega (arith, far.if1.false))
+    (zero_there s.most s.text.now s.at far.if-text-at.false (sym c.before.before.is_digit.ensures ∙ not-false _ c.before.if-not-is_digit.false-raw) c.if-b-eq-ZERO.true, omega arith, omega arith, omega (arith, far.if-text-at.false))
 
-returns_4 : tie.Need-returns-4
+returns_4 : tie.Need-returns
 returns_4 c =
     let s = c.before.before.before.before.before.before.before.args in
-    number_told s.most s.text.now s.at c.before.before.before.before.before.if1.false c.read-digits.result (sym c.before.before.before.is_digit.ensures ∙ not-false _ c.before.before.if2.false) c.before.if3.false c.read-digits.ensures
+    number_told s.most s.text.now s.at c.before.before.before.before.before.if-text-at.false c.read_digits.result (sym c.before.before.before.is_digit.ensures ∙ not-false _ c.before.before.if-not-is_digit.false-raw) c.before.if-b-eq-ZERO.false c.read_digits.ensures
 
 pub read_number_spec : {M : Type 1} → statement M
 read_number_spec =

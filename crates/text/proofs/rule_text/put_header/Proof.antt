@@ -11,8 +11,8 @@ use Rattle.text.proofs.rule_text.put_header.Tie as tie
 returns : tie.Need-returns
 returns c =
     let s = c.before.before.before.before.before.before.before.before.before.before.before.before.before.args in
-    c.before.before.put3.ensures
-    ∙ ap (λ (x : List ℕ). set x (s.to + 2) s.right) (c.before.before.before.before.before.before.put2.ensures ∙ ap (λ (x : List ℕ). set x (s.to + 1) s.left) c.before.before.before.before.before.before.before.before.before.before.put.ensures)
+    c.before.before.put-3.ensures
+    ∙ ap (λ (x : List ℕ). set x (s.to + 2) s.right) (c.before.before.before.before.before.before.put-2.ensures ∙ ap (λ (x : List ℕ). set x (s.to + 1) s.left) c.before.before.before.before.before.before.before.before.before.before.put.ensures)
 
 pub put_header_spec : {M : Type 1} → statement M
 put_header_spec =

@@ -5,11 +5,11 @@ use Rattle.text.proofs.Givens.{good_term, bad_term_lem}
 use Rattle.text.proofs.term_text.accept_term.Statement.{statement}
 use Rattle.text.proofs.term_text.accept_term.Tie as tie
 
-returns : tie.Need-returns
-returns c = sym (good_term _ (sym c.before.before.check_term.ensures ∙ c.enum_told.given.1))
+returns : tie.Need-returns-in-Good
+returns c = sym (good_term _ (sym c.before.check_term.ensures ∙ c.in-Good.is))
 
-returns_2 : tie.Need-returns-2
-returns_2 c = sym (bad_term_lem _ _ (sym c.before.before.before.check_term.ensures ∙ c.before.at.given.1))
+returns_2 : tie.Need-returns-in-Bad
+returns_2 c = sym (bad_term_lem _ _ (sym c.before.check_term.ensures ∙ c.in-Bad.is))
 
 pub accept_term_spec : {M : Type 1} → statement M
 accept_term_spec =

@@ -6,13 +6,13 @@ use lib.ListN.{replicate}
 use Rattle.text.proofs.term_text.read_term.Statement.{statement}
 use Rattle.text.proofs.term_text.read_term.Tie as tie
 
-read_term_in_requires : tie.Need-read-term-in-requires
+read_term_in_requires : tie.Need-read_term_in-requires
 read_term_in_requires c κs =
     let far = c.before.before.before.before in
-    (refl, far.clear.ensures ∙ ap (λ (k : ℕ). replicate k 0) (sym far.clear.auto.0))
+    (refl, far.clear.ensures ∙ ap (λ (k : ℕ). replicate k 0) (sym far.clear.auto.out))
 
 returns : tie.Need-returns
-returns c = rw c.before.before.before.before.before.before.before.before.clear.auto.0 at c.before.before.before.read-term-in.ensures
+returns c = rw c.before.before.before.before.before.before.before.before.clear.auto.out at c.before.before.before.read_term_in.ensures
 
 pub read_term_spec : {M : Type 1} → statement M
 read_term_spec =

@@ -12,33 +12,33 @@ use Rattle.text.proofs.TermTexts.{write_given}
 use Rattle.text.proofs.term_text.write_term.Statement.{statement}
 use Rattle.text.proofs.term_text.write_term.Tie as tie
 
-write_line_requires : tie.Need-write-line-requires
+write_line_requires : tie.Need-write_line-end-requires
 write_line_requires c κs =
-    ((good_tree term_limits (omega arith) c.before.before.before.before.before.before.before.before.before.before.args.term.now (sound_term _ (sym c.before.before.before.accept-term.ensures ∙ c.before.enum_told.given.1))).short, omega arith)
+    ((good_tree term_limits (omega arith) c.before.before.before.before.before.before.before.before.before.args.term.now (sound_term _ (sym c.before.before.accept_term.ensures ∙ c.before.in-Sound.is))).short, omega arith)
 
-returns : tie.Need-returns
+returns : tie.Need-returns-then-end-out
 returns c =
-    let far = c.before.before.before.before.before.before.before.before.before.before in
+    let far = c.before.before.before.before.before.before.before.before.before in
     let far2 = c.before.before.before in
-    let s = c.before.before.before.before.before.before.before.before.before.before.before.before.before.before.args in
+    let s = c.before.before.before.before.before.before.before.before.before.before.before.before.before.args in
     write_given (length s.out.now) s.term.now Done _
-    (given_done (length s.out.now) (line_text s.term.now) _ far.clear-bytes.new.0 _ (sym c.before.before.before.before.before.before.before.accept-term.ensures ∙ c.before.before.before.before.before.enum_told.given.1)
-    (omega (arith, c.if1.true, far2.write-line.ensures.0, far2.write-line.auto.1.0, far.clear-bytes.auto.0)) far.clear-bytes.ensures far2.write-line.ensures.1)
+    (given_done (length s.out.now) (line_text s.term.now) _ far.clear_bytes.new.out _ (sym c.before.before.before.before.before.before.accept_term.ensures ∙ c.before.before.before.before.before.in-Sound.is)
+    (omega (arith, c.if-end-out.true, far2.write_line-end.ensures.0, far2.write_line-end.auto.out, far.clear_bytes.auto.out)) far.clear_bytes.ensures far2.write_line-end.ensures.1)
 
-returns_2 : tie.Need-returns-2
+returns_2 : tie.Need-returns-else-end-out
 returns_2 c =
     let far = c.before.before.before.before.before.before.before in
-    let s = c.before.before.before.before.before.before.before.before.before.before.before.before.before.before.before.before.before.before.args in
-    let k : length far.write-line.new.1.0 ≡ length s.out.now = far.write-line.auto.1.0 ∙ c.before.before.before.before.before.before.before.before.before.before.before.before.before.before.clear-bytes.auto.0 in
+    let s = c.before.before.before.before.before.before.before.before.before.before.before.before.before.before.before.before.before.args in
+    let k : length far.write_line-end.new.out ≡ length s.out.now = far.write_line-end.auto.out ∙ c.before.before.before.before.before.before.before.before.before.before.before.before.before.clear_bytes.auto.out in
     write_given (length s.out.now) s.term.now Short _
-    (given_short (length s.out.now) (line_text s.term.now) _ _ (sym c.before.before.before.before.before.before.before.before.before.before.before.accept-term.ensures ∙ c.before.before.before.before.before.before.before.before.before.enum_told.given.1)
-    (omega (arith, c.before.before.before.before.if1.false, far.write-line.ensures.0, k)) (cleared _ _ _ k c.before.before.clear-bytes2.ensures))
+    (given_short (length s.out.now) (line_text s.term.now) _ _ (sym c.before.before.before.before.before.before.before.before.before.before.accept_term.ensures ∙ c.before.before.before.before.before.before.before.before.before.in-Sound.is)
+    (omega (arith, c.before.before.before.before.if-end-out.false, far.write_line-end.ensures.0, k)) (cleared _ _ _ k c.before.before.clear_bytes-in-Sound.ensures))
 
-returns_3 : tie.Need-returns-3
+returns_3 : tie.Need-returns-in-Refused
 returns_3 c =
-    let s = c.before.before.before.before.before.before.before.before.before.before.args in
+    let s = c.before.before.before.before.before.before.before.before.args in
     write_given (length s.out.now) s.term.now _ _
-    (given_bad (length s.out.now) (line_text s.term.now) _ _ _ (sym c.before.before.before.accept-term.ensures ∙ c.before.answer.given.1) c.before.before.before.before.before.before.clear-bytes.ensures)
+    (given_bad (length s.out.now) (line_text s.term.now) _ _ _ (sym c.before.accept_term.ensures ∙ c.in-Refused.is) c.before.before.before.before.clear_bytes.ensures)
 
 pub write_term_spec : {M : Type 1} → statement M
 write_term_spec =

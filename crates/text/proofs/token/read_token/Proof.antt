@@ -5,30 +5,30 @@ use Rattle.text.proofs.Letters.{no_letter, symbol_there, abstraction_there, lett
 use Rattle.text.proofs.token.read_token.Statement.{statement}
 use Rattle.text.proofs.token.read_token.Tie as tie
 
-returns : tie.Need-returns
-returns c = let s = c.before.before.args in no_letter s.text.now s.at c.if1.true
+returns : tie.Need-returns-then-text-at
+returns c = let s = c.before.before.args in no_letter s.text.now s.at c.if-text-at.true
 
-returns_2 : tie.Need-returns-2
+returns_2 : tie.Need-returns-then-b-eq115
 returns_2 c =
-    let s = c.before.before.before.before.before.args in symbol_there s.text.now s.at c.before.before.before.if1.false c.before.if2.true c.read-dotted.result c.read-dotted.ensures
+    let s = c.before.before.before.before.before.args in symbol_there s.text.now s.at c.before.before.before.if-text-at.false c.before.if-b-eq115.true c.read_dotted.result c.read_dotted.ensures
 
-returns_3 : tie.Need-returns-3
-returns_3 c = let s = c.before.before.before.before.before.args in abstraction_there s.text.now s.at c.before.before.before.if1.false c.before.if2.false c.if3.true
+returns_3 : tie.Need-returns-then-b-eq108
+returns_3 c = let s = c.before.before.before.before.before.args in abstraction_there s.text.now s.at c.before.before.before.if-text-at.false c.before.if-b-eq115.false c.if-b-eq108.true
 
-returns_4 : tie.Need-returns-4
+returns_4 : tie.Need-returns-then-b-eq118
 returns_4 c =
     let s = c.before.before.before.before.before.before.before.args in
-    letter_v s.text.now s.at c.before.before.before.before.before.if1.false c.before.before.before.if2.false c.before.before.if3.false c.before.if4.true c.read-variable.result c.read-variable.ensures
+    letter_v s.text.now s.at c.before.before.before.before.before.if-text-at.false c.before.before.before.if-b-eq115.false c.before.before.if-b-eq108.false c.before.if-b-eq118.true c.read_variable.result c.read_variable.ensures
 
-returns_5 : tie.Need-returns-5
+returns_5 : tie.Need-returns-then-b-eq109
 returns_5 c =
     let s = c.before.before.before.before.before.before.before.before.args in
-    pattern_there s.text.now s.at c.before.before.before.before.before.before.if1.false c.before.before.before.before.if2.false c.before.before.before.if3.false c.before.before.if4.false c.before.if5.true c.read-dotted2.result c.read-dotted2.ensures
+    pattern_there s.text.now s.at c.before.before.before.before.before.before.if-text-at.false c.before.before.before.before.if-b-eq115.false c.before.before.before.if-b-eq108.false c.before.before.if-b-eq118.false c.before.if-b-eq109.true c.read_dotted-then-b-eq109.result c.read_dotted-then-b-eq109.ensures
 
-returns_6 : tie.Need-returns-6
+returns_6 : tie.Need-returns
 returns_6 c =
     let s = c.before.before.before.before.before.before.before.args in
-    other_letter s.text.now s.at c.before.before.before.before.before.if1.false c.before.before.before.if2.false c.before.before.if3.false c.before.if4.false c.if5.false
+    other_letter s.text.now s.at c.before.before.before.before.before.if-text-at.false c.before.before.before.if-b-eq115.false c.before.before.if-b-eq108.false c.before.if-b-eq118.false c.if-b-eq109.false
 
 pub read_token_spec : {M : Type 1} → statement M
 read_token_spec =

@@ -8,22 +8,22 @@ use Rattle.text.proofs.Letters.{no_variable, id_zero, variable_there}
 use Rattle.text.proofs.token.read_variable.Statement.{statement}
 use Rattle.text.proofs.token.read_variable.Tie as tie
 
-returns : tie.Need-returns
-returns c = let s = c.before.before.before.before.args in no_variable s.text.now s.at (rw c.enum_told.given.1 at c.before.before.read_number.ensures)
+returns : tie.Need-returns-in_default
+returns c = let s = c.before.before.before.args in no_variable s.text.now s.at (rw c.in_default.is at c.before.read_number.ensures)
 
-returns_2 : tie.Need-returns-2
+returns_2 : tie.Need-returns-then-i-lt1
 returns_2 c =
-    let far = c.before.before in
-    let s = c.before.before.before.before.before.before.args in id_zero s.text.now s.at _ far.i.given.0.1.0 (rw far.i.given.1 at c.before.before.before.before.read_number.ensures) c.if1.true
+    let far = c.before in
+    let s = c.before.before.before.before.args in id_zero s.text.now s.at _ far.in-Read.next (rw far.in-Read.is at c.before.before.read_number.ensures) c.if-i-lt1.true
 
-id_told : (c : tie.Else1) → NumberTold 65535 c.before.before.before.before.before.before.args.text.now c.before.before.before.before.before.before.args.at (numbers.Read c.before.before.i.given.0.0 c.before.before.i.given.0.1.0)
-id_told c = rw c.before.before.i.given.1 at c.before.before.before.before.read_number.ensures
+id_told : (c : tie.Else-i-lt1) → NumberTold 65535 c.before.before.before.before.args.text.now c.before.before.before.before.args.at (numbers.Read c.before.in-Read.i c.before.in-Read.next)
+id_told c = rw c.before.in-Read.is at c.before.before.read_number.ensures
 
-add_t8 : tie.Need-overflow-add-t8
+add_t8 : tie.Need-overflow_add-result
 add_t8 c = omega (arith, (id_told c).1)
 
-returns_3 : tie.Need-returns-3
-returns_3 c = let s = c.before.before.before.before.before.before.args in variable_there s.text.now s.at _ c.before.before.i.given.0.1.0 (id_told c) c.if1.false
+returns_3 : tie.Need-returns
+returns_3 c = let s = c.before.before.before.before.args in variable_there s.text.now s.at _ c.before.in-Read.next (id_told c) c.if-i-lt1.false
 
 pub read_variable_spec : {M : Type 1} → statement M
 read_variable_spec =

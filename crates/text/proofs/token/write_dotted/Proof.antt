@@ -9,22 +9,22 @@ use Rattle.text.proofs.Wrote.{wrote_then, wrote_first}
 use Rattle.text.proofs.token.write_dotted.Statement.{statement}
 use Rattle.text.proofs.token.write_dotted.Tie as tie
 
-add_write_number : tie.Need-overflow-add-write-number
+add_write_number : tie.Need-overflow_add-dot
 add_write_number c =
     let far = c.before.before.before.before.before.before.before.before in
-    omega (arith, c.before.before.before.before.before.before.before.write-number.ensures.0, decimal_few far.id-of.result, far.id-of.ensures, c.before.before.before.before.before.before.before.before.before.before.before.requires)
+    omega (arith, c.before.before.before.before.before.before.before.write_number-dot.ensures.0, decimal_few far.id_of.result, far.id_of.ensures, c.before.before.before.before.before.before.before.before.before.before.before.requires)
 
-write_number_requires_2 : tie.Need-write-number-requires-2
+write_number_requires_2 : tie.Need-write_number-requires
 write_number_requires_2 c κs =
     let far = c.before.before.before.before.before.before.before.before.before in
-    omega (arith, c.before.before.before.before.before.before.before.before.write-number.ensures.0, decimal_few far.id-of.result, far.id-of.ensures, c.before.before.before.before.before.before.before.before.before.before.before.before.requires)
+    omega (arith, c.before.before.before.before.before.before.before.before.write_number-dot.ensures.0, decimal_few far.id_of.result, far.id_of.ensures, c.before.before.before.before.before.before.before.before.before.before.before.before.requires)
 
 returns : tie.Need-returns
 unfolding dotted
 returns c =
     let s = c.before.before.before.before.before.before.before.before.before.before.before.before.before.before.before.args in
-    wrote_then s.out.now s.at _ _ c.before.before.before.before.before.before.before.before.before.before.before.write-number.new.0 _ (decimal (ident_of s.w)) _ (rw c.before.before.before.before.before.before.before.before.before.before.before.before.id-of.ensures at c.before.before.before.before.before.before.before.before.before.before.before.write-number.ensures)
-    (wrote_first c.before.before.before.before.before.before.before.before.before.before.before.write-number.new.0 _ 46 _ c.before.before.before.before.before.before.before.put_byte.new.0 _ (decimal (count_of s.w)) c.before.before.before.before.before.before.before.put_byte.ensures (rw c.before.before.before.count_of.ensures at c.before.before.write-number2.ensures))
+    wrote_then s.out.now s.at _ _ c.before.before.before.before.before.before.before.before.before.before.before.write_number-dot.new.out _ (decimal (ident_of s.w)) _ (rw c.before.before.before.before.before.before.before.before.before.before.before.before.id_of.ensures at c.before.before.before.before.before.before.before.before.before.before.before.write_number-dot.ensures)
+    (wrote_first c.before.before.before.before.before.before.before.before.before.before.before.write_number-dot.new.out _ 46 _ c.before.before.before.before.before.before.before.put_byte.new.out _ (decimal (count_of s.w)) c.before.before.before.before.before.before.before.put_byte.ensures (rw c.before.before.before.count_of.ensures at c.before.before.write_number.ensures))
 
 pub write_dotted_spec : {M : Type 1} → statement M
 write_dotted_spec =

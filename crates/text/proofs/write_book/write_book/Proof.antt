@@ -11,39 +11,39 @@ use Rattle.text.proofs.BookWrites.{text_over, text_short, text_done, text_bad, w
 use Rattle.text.proofs.write_book.write_book.Statement.{statement}
 use Rattle.text.proofs.write_book.write_book.Tie as tie
 
-returns : tie.Need-returns
+returns : tie.Need-returns-then-end-gt-MOST_BYTES
 returns c =
     let far = c.before.before.before.before.before.before.before in
-    let s = c.before.before.before.before.before.before.before.before.before.before.before.before.before.before.before.before.before.before.args in
-    let k : length far.write-good.new.1.0 ≡ length s.out.now = far.write-good.auto.1.0 ∙ c.before.before.before.before.before.before.before.before.before.before.before.before.before.before.clear-bytes.auto.0 in
+    let s = c.before.before.before.before.before.before.before.before.before.before.before.before.before.before.before.before.before.args in
+    let k : length far.write_good-end.new.out ≡ length s.out.now = far.write_good-end.auto.out ∙ c.before.before.before.before.before.before.before.before.before.before.before.before.before.clear_bytes.auto.out in
     write_given (length s.out.now) s.book.now Short _
-    (text_over (length s.out.now) (book_text s.book.now) _ _ (sym c.before.before.before.before.before.before.before.before.before.before.before.accept-book.ensures ∙ c.before.before.before.before.before.before.before.before.before.enum_told.given.1)
-    (omega (arith, c.before.before.before.before.if1.true, far.write-good.ensures.0)) (cleared _ _ _ k c.before.before.clear-bytes2.ensures))
+    (text_over (length s.out.now) (book_text s.book.now) _ _ (sym c.before.before.before.before.before.before.before.before.before.before.accept_book.ensures ∙ c.before.before.before.before.before.before.before.before.before.in-Sound.is)
+    (omega (arith, c.before.before.before.before.if-end-gt-MOST_BYTES.true, far.write_good-end.ensures.0)) (cleared _ _ _ k c.before.before.clear_bytes-then-end-gt-MOST_BYTES.ensures))
 
-returns_2 : tie.Need-returns-2
+returns_2 : tie.Need-returns-then-out-end
 returns_2 c =
     let far = c.before.before.before.before.before.before.before.before in
-    let s = c.before.before.before.before.before.before.before.before.before.before.before.before.before.before.before.before.before.before.before.args in
-    let k : length far.write-good.new.1.0 ≡ length s.out.now = far.write-good.auto.1.0 ∙ c.before.before.before.before.before.before.before.before.before.before.before.before.before.before.before.clear-bytes.auto.0 in
+    let s = c.before.before.before.before.before.before.before.before.before.before.before.before.before.before.before.before.before.before.args in
+    let k : length far.write_good-end.new.out ≡ length s.out.now = far.write_good-end.auto.out ∙ c.before.before.before.before.before.before.before.before.before.before.before.before.before.before.clear_bytes.auto.out in
     write_given (length s.out.now) s.book.now Short _
-    (text_short (length s.out.now) (book_text s.book.now) _ _ (sym c.before.before.before.before.before.before.before.before.before.before.before.before.accept-book.ensures ∙ c.before.before.before.before.before.before.before.before.before.before.enum_told.given.1)
-    (omega (arith, c.before.before.before.before.before.if1.false, far.write-good.ensures.0)) (omega (arith, c.before.before.before.before.if2.true, far.write-good.ensures.0, k)) (cleared _ _ _ k c.before.before.clear-bytes3.ensures))
+    (text_short (length s.out.now) (book_text s.book.now) _ _ (sym c.before.before.before.before.before.before.before.before.before.before.before.accept_book.ensures ∙ c.before.before.before.before.before.before.before.before.before.before.in-Sound.is)
+    (omega (arith, c.before.before.before.before.before.if-end-gt-MOST_BYTES.false, far.write_good-end.ensures.0)) (omega (arith, c.before.before.before.before.if-out-end.true, far.write_good-end.ensures.0, k)) (cleared _ _ _ k c.before.before.clear_bytes-then-out-end.ensures))
 
-returns_3 : tie.Need-returns-3
+returns_3 : tie.Need-returns-else-out-end
 returns_3 c =
-    let far = c.before.before.before.before.before.before.before.before.before.before.before in
+    let far = c.before.before.before.before.before.before.before.before.before.before in
     let far2 = c.before.before.before.before in
-    let s = c.before.before.before.before.before.before.before.before.before.before.before.before.before.before.before.args in
-    let k : length far2.write-good.new.1.0 ≡ length s.out.now = far2.write-good.auto.1.0 ∙ far.clear-bytes.auto.0 in
+    let s = c.before.before.before.before.before.before.before.before.before.before.before.before.before.before.args in
+    let k : length far2.write_good-end.new.out ≡ length s.out.now = far2.write_good-end.auto.out ∙ far.clear_bytes.auto.out in
     write_given (length s.out.now) s.book.now Done _
-    (text_done (length s.out.now) (book_text s.book.now) _ far.clear-bytes.new.0 _ (sym c.before.before.before.before.before.before.before.before.accept-book.ensures ∙ c.before.before.before.before.before.before.enum_told.given.1)
-    (omega (arith, c.before.if1.false, far2.write-good.ensures.0)) (omega (arith, c.if2.false, far2.write-good.ensures.0, k)) far.clear-bytes.ensures far2.write-good.ensures.1)
+    (text_done (length s.out.now) (book_text s.book.now) _ far.clear_bytes.new.out _ (sym c.before.before.before.before.before.before.before.accept_book.ensures ∙ c.before.before.before.before.before.before.in-Sound.is)
+    (omega (arith, c.before.if-end-gt-MOST_BYTES.false, far2.write_good-end.ensures.0)) (omega (arith, c.if-out-end.false, far2.write_good-end.ensures.0, k)) far.clear_bytes.ensures far2.write_good-end.ensures.1)
 
-returns_4 : tie.Need-returns-4
+returns_4 : tie.Need-returns-in-Refused
 returns_4 c =
-    let s = c.before.before.before.before.before.before.before.before.before.before.args in
+    let s = c.before.before.before.before.before.before.before.before.args in
     write_given (length s.out.now) s.book.now _ _
-    (text_bad (length s.out.now) (book_text s.book.now) _ _ _ (sym c.before.before.before.accept-book.ensures ∙ c.before.answer.given.1) c.before.before.before.before.before.before.clear-bytes.ensures)
+    (text_bad (length s.out.now) (book_text s.book.now) _ _ _ (sym c.before.accept_book.ensures ∙ c.in-Refused.is) c.before.before.before.before.clear_bytes.ensures)
 
 pub write_book_spec : {M : Type 1} → statement M
 write_book_spec =
@@ -52,7 +52,7 @@ write_book_spec =
     (λ c κs. search rules)
     (λ c κs. search rules)
     (λ c. search rules)
-    (λ c κs. accepted_good _ (sym c.before.before.before.accept-book.ensures ∙ c.before.enum_told.given.1))
+    (λ c κs. accepted_good _ (sym c.before.before.accept_book.ensures ∙ c.before.in-Sound.is))
     (λ c κs. search rules)
     (λ c. search rules)
     returns

@@ -9,36 +9,34 @@ use Rattle.text.proofs.Wrote.{wrote_then}
 use Rattle.text.proofs.write_book.write_good.Statement.{statement}
 use Rattle.text.proofs.write_book.write_good.Tie as tie
 
-write_number_line_requires : tie.Need-write-number-line-requires
+write_number_line_requires : tie.Need-write_number_line-rules_at-requires
 write_number_line_requires c κs =
-    let start = c.before.before.before.before.before.before.before.before.before.before in
-    (omega (arith, c.before.before.before.before.before.put-key.ensures.0), omega arith, omega (arith, (book_judged start.args.book.now start.requires).1))
+    let start = c.before.before.before.before.before.before.before.before.before.before.before.before in
+    (omega (arith, c.before.before.before.before.before.before.put_key-count_at.ensures.0), omega arith, omega (arith, (book_judged start.args.book.now start.requires).1))
 
-write_rules_requires : tie.Need-write-rules-requires
+write_rules_requires : tie.Need-write_rules-requires
 write_rules_requires c κs =
-    let start = c.before.before.before.before.before.before.before.before.before.before.before.before.before.before in
+    let start = c.before.before.before.before.before.before.before.before.before.before.before.before.before.before.before.before in
     let j = book_judged start.args.book.now start.requires in
-    (omega (arith, c.before.before.before.write-number-line.ensures.0, c.before.before.before.before.before.before.before.before.before.put-key.ensures.0, number_line_short rules_key (get_or start.args.book.now 0 0) (omega (arith, j.1))), start.requires)
+    (omega (arith, c.before.before.before.write_number_line-rules_at.ensures.0, c.before.before.before.before.before.before.before.before.before.before.put_key-count_at.ensures.0, number_line_short rules_key (get_or start.args.book.now 0 0) (omega (arith, j.1))), start.requires)
 
 returns : tie.Need-returns
 returns c =
-    let start = c.before.before.before.before.before.before.before.before.before.before.before.before.before.before.before.before.before in
-    let far = c.before.before.before.before.before.before.before.before.before.before.before.before in
+    let start = c.before.before.before.before.before.before.before.before.before.before.before.before.before.before.before.before.before.before.before in
+    let far = c.before.before.before.before.before.before.before.before.before.before.before.before.before in
     let far2 = c.before.before.before.before.before.before in
     let s = start.args in
     let n = get_or s.book.now 0 0 in
     rw (book_parts s.book.now (book_judged s.book.now start.requires).0)
-    (wrote_then s.out.now 0 _ _ far.put-key.new.0 _ book_line (number_text rules_key n [] ++ rules_text 0 n (drop 1 s.book.now)) far.put-key.ensures
-    (wrote_then far.put-key.new.0 _ _ _ far2.write-number-line.new.0 _ (number_text rules_key n []) (rules_text 0 n (drop 1 s.book.now)) far2.write-number-line.ensures c.before.before.write-rules.ensures))
+    (wrote_then s.out.now 0 _ _ far.put_key-count_at.new.out _ book_line (number_text rules_key n [] ++ rules_text 0 n (drop 1 s.book.now)) far.put_key-count_at.ensures
+    (wrote_then far.put_key-count_at.new.out _ _ _ far2.write_number_line-rules_at.new.out _ (number_text rules_key n []) (rules_text 0 n (drop 1 s.book.now)) far2.write_number_line-rules_at.ensures c.before.before.write_rules.ensures))
 
 pub write_good_spec : {M : Type 1} → statement M
 write_good_spec =
     tie.close
     (tie.spec
-    (λ c. search rules)
     (λ c κs. search rules)
-    (λ c. search rules)
-    (λ c. omega (arith, (book_judged c.before.before.before.before.before.before.before.before.before.before.args.book.now c.before.before.before.before.before.before.before.before.before.before.requires).0))
+    (λ c. omega (arith, (book_judged c.before.before.before.before.before.before.before.before.before.before.before.before.args.book.now c.before.before.before.before.before.before.before.before.before.before.before.before.requires).0))
     write_number_line_requires
     write_rules_requires
     (λ c. search rules)

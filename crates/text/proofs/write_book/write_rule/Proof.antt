@@ -6,41 +6,37 @@ use Rattle.text.proofs.BookWrites.{number_line_short, side_short, rule_wrote}
 use Rattle.text.proofs.write_book.write_rule.Statement.{statement}
 use Rattle.text.proofs.write_book.write_rule.Tie as tie
 
-write_number_line_requires_2 : tie.Need-write-number-line-requires-2
+write_number_line_requires_2 : tie.Need-write_number_line-left_at-requires
 write_number_line_requires_2 c κs =
-    let s = c.before.before.before.before.before.before.before.before.before.before in
-    (omega (arith, c.before.before.before.before.write-number-line.ensures.0, number_line_short rule_key s.args.number (omega (arith, s.requires)), s.requires), omega arith, omega (arith, s.requires))
+    let s = c.before.before.before.before.before.before.before.before.before.before.before.before in
+    (omega (arith, c.before.before.before.before.before.write_number_line-vars_at.ensures.0, number_line_short rule_key s.args.number (omega (arith, s.requires)), s.requires), omega arith, omega (arith, s.requires))
 
-write_side_requires : tie.Need-write-side-requires
+write_side_requires : tie.Need-write_side-right_at-requires
 write_side_requires c κs =
-    let s = c.before.before.before.before.before.before.before.before.before.before.before.before.before.before.before in
-    (omega (arith, c.before.before.before.before.write-number-line2.ensures.0, c.before.before.before.before.before.before.before.before.before.write-number-line.ensures.0, number_line_short rule_key s.args.number (omega (arith, s.requires)), number_line_short vars_key s.args.vars (omega (arith, s.requires)), s.requires), omega arith, s.requires.3)
+    let s = c.before.before.before.before.before.before.before.before.before.before.before.before.before.before.before.before.before.before in
+    (omega (arith, c.before.before.before.before.before.write_number_line-left_at.ensures.0, c.before.before.before.before.before.before.before.before.before.before.before.write_number_line-vars_at.ensures.0, number_line_short rule_key s.args.number (omega (arith, s.requires)), number_line_short vars_key s.args.vars (omega (arith, s.requires)), s.requires), omega arith, s.requires.3)
 
-write_side_requires_2 : tie.Need-write-side-requires-2
+write_side_requires_2 : tie.Need-write_side-requires
 write_side_requires_2 c κs =
-    let s = c.before.before.before.before.before.before.before.before.before.before.before.before.before.before.before.before.before.before.before.before in
-    (omega (arith, c.before.before.before.before.write-side.ensures.0, c.before.before.before.before.before.before.before.before.before.write-number-line2.ensures.0, c.before.before.before.before.before.before.before.before.before.before.before.before.before.before.write-number-line.ensures.0, number_line_short rule_key s.args.number (omega (arith, s.requires)), number_line_short vars_key s.args.vars (omega (arith, s.requires)), side_short left_key s.args.left.now s.requires.3, s.requires), omega arith, s.requires.4)
+    let s = c.before.before.before.before.before.before.before.before.before.before.before.before.before.before.before.before.before.before.before.before.before.before.before.before in
+    (omega (arith, c.before.before.before.before.before.write_side-right_at.ensures.0, c.before.before.before.before.before.before.before.before.before.before.before.write_number_line-left_at.ensures.0, c.before.before.before.before.before.before.before.before.before.before.before.before.before.before.before.before.before.write_number_line-vars_at.ensures.0, number_line_short rule_key s.args.number (omega (arith, s.requires)), number_line_short vars_key s.args.vars (omega (arith, s.requires)), side_short left_key s.args.left.now s.requires.3, s.requires), omega arith, s.requires.4)
 
 returns : tie.Need-returns
 returns c =
-    let far = c.before.before.before.before.before.before.before.before.before.before.before.before.before.before.before.before.before in
-    let far2 = c.before.before.before.before.before.before.before.before.before.before.before.before in
-    let far3 = c.before.before.before.before.before.before.before in
-    let s = c.before.before.before.before.before.before.before.before.before.before.before.before.before.before.before.before.before.before.before.before.before.before.before.args in
-    rule_wrote s.out.now far.write-number-line.new.0 far2.write-number-line2.new.0 far3.write-side.new.0 _ s.at _ _ _ _ s.number
-    (record { vars = s.vars; left = s.left.now; right = s.right.now }) far.write-number-line.ensures far2.write-number-line2.ensures far3.write-side.ensures c.before.before.write-side2.ensures
+    let far = c.before.before.before.before.before.before.before.before.before.before.before.before.before.before.before.before.before.before.before.before in
+    let far2 = c.before.before.before.before.before.before.before.before.before.before.before.before.before.before in
+    let far3 = c.before.before.before.before.before.before.before.before in
+    let s = c.before.before.before.before.before.before.before.before.before.before.before.before.before.before.before.before.before.before.before.before.before.before.before.before.before.before.before.args in
+    rule_wrote s.out.now far.write_number_line-vars_at.new.out far2.write_number_line-left_at.new.out far3.write_side-right_at.new.out _ s.at _ _ _ _ s.number
+    (record { vars = s.vars; left = s.left.now; right = s.right.now }) far.write_number_line-vars_at.ensures far2.write_number_line-left_at.ensures far3.write_side-right_at.ensures c.before.before.write_side.ensures
 
 pub write_rule_spec : {M : Type 1} → statement M
 write_rule_spec =
     tie.close
     (tie.spec
-    (λ c. search rules)
     (λ c κs. search rules)
-    (λ c. search rules)
     write_number_line_requires_2
-    (λ c. search rules)
     write_side_requires
-    (λ c. search rules)
     write_side_requires_2
     (λ c. search rules)
     returns)

@@ -8,7 +8,7 @@ returns : tie.Need-returns
 returns c =
     let far = c.before.before.before.before.before.before in
     let s = c.before.before.before.before.before.before.before.before.before.before.before.args in
-    side_wrote s.out.now far.put-key.new.0 _ s.key.now s.words.now s.at _ _ far.put-key.ensures c.before.before.write-line.ensures
+    side_wrote s.out.now far.put_key-to.new.out _ s.key.now s.words.now s.at _ _ far.put_key-to.ensures c.before.before.write_line.ensures
 
 pub write_side_spec : {M : Type 1} → statement M
 write_side_spec = tie.close (tie.spec (λ c κs. search rules) (λ c κs. search rules) (λ c. search rules) returns)
