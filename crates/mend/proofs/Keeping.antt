@@ -2,7 +2,7 @@
 -- rules that stay. So each turn only moves one rule over.
 use mathlib.Core.Path.{◌≡◌, refl, sym, ap, ◌∙◌}
 use mathlib.Core.Bool.{Bool, true, false, ◌&&◌}
-use mathlib.Core.List.{List, [], ◌∷◌, ◌++◌, append_assoc, append_nil}
+use mathlib.Core.List.{List, [], ◌∷◌, ◌++◌, append_assoc, append-nil}
 use Prim.Native.Nat.{ℕ, suc, ◌+◌, ◌-◌, ◌*◌, ◌≤◌, ◌<◌}
 use native.Mathlib.Omega.{arith}
 use lib.Dec.{ltb}
@@ -68,7 +68,7 @@ together_more [] others = rw together_nothing
 together_more (rule ∷ rules) others = rw (together_rule rule (rules ++ others), together_more rules others, together_rule rule rules, append_assoc)
 
 together_last : (rules : List (List ℕ)) (rule : List ℕ) → together (rules ++ (rule ∷ [])) ≡ together rules ++ rule
-together_last rules rule = together_more rules (rule ∷ []) ∙ rw (together_rule rule [], together_nothing, append_nil rule)
+together_last rules rule = together_more rules (rule ∷ []) ∙ rw (together_rule rule [], together_nothing, append-nil rule)
 
 -- ---- rules before those that are left
 abbrev and_all : List (List ℕ) → Present → Present
@@ -132,7 +132,7 @@ module _ (bs : List ℕ) (at : ℕ) where
         let n : new ≡ length (kept_from 0 i.rules) = all_kept_lem in
         record {
           rules = i.rules;
-          is = i.left ∙ rw (drop_of_length-le bs {i = a} l, present_end old, append_nil i.rules);
+          is = i.left ∙ rw (drop_of_length-le bs {i = a} l, present_end old, append-nil i.rules);
           present = sym i.count;
           kept_are = n;
           words = i.words ∙ ap (λ (x : List (List ℕ)). 0 ∷ together x) (sym all_stayed);
@@ -143,10 +143,10 @@ module _ (bs : List ℕ) (at : ℕ) where
         }
       where
         all_stayed : kept_from 0 i.rules ≡ i.stayed
-        all_stayed = ap (kept_from 0) (sym (append_nil i.rules)) ∙ i.kept_so [] ∙ rw (none_kept new) (append_nil i.stayed)
+        all_stayed = ap (kept_from 0) (sym (append-nil i.rules)) ∙ i.kept_so [] ∙ rw (none_kept new) (append-nil i.stayed)
 
         all_numbers : olds_from 0 0 i.rules ≡ i.numbers
-        all_numbers = ap (olds_from 0 0) (sym (append_nil i.rules)) ∙ i.olds_so [] ∙ rw (no_numbers old new) (append_nil i.numbers)
+        all_numbers = ap (olds_from 0 0) (sym (append-nil i.rules)) ∙ i.olds_so [] ∙ rw (no_numbers old new) (append-nil i.numbers)
 
         all_kept_lem : new ≡ length (kept_from 0 i.rules)
         all_kept_lem = sym (ap length all_stayed ∙ i.stayed_new)

@@ -4,7 +4,7 @@ use Prim.Native.Nat.{ℕ, suc, ◌+◌, ◌≤◌, ◌<◌}
 use native.Mathlib.Omega.{arith}
 use mathlib.Core.Path.{◌≡◌, refl, sym, ap, ◌∙◌}
 use mathlib.Core.Bool.{Bool, true, false, ◌&&◌}
-use mathlib.Core.List.{List, [], ◌∷◌, ◌++◌, append_nil, map}
+use mathlib.Core.List.{List, [], ◌∷◌, ◌++◌, append-nil, map}
 use mathlib.Core.Logic.{◌⊎◌, inl, inr}
 use lib.Dec.{ltb}
 use lib.ListN.{length, length-append}
@@ -150,7 +150,7 @@ all_repaired : (rules : List (List ℕ)) → AllSound rules → length rules ≤
 unfolding repaired_text was_text
 all_repaired rules s h =
     rw (eq-eqb (length rules) (length rules) refl, notes_all 0 rules s (omega (arith, h)))
-    (ap (λ (x : List ℕ). book_text (new_book rules) ++ x) (append_nil (notes_text (all_kept 0 (length rules)))))
+    (ap (λ (x : List ℕ). book_text (new_book rules) ++ x) (append-nil (notes_text (all_kept 0 (length rules)))))
 
 sound_back : (text book : List ℕ) (rules : List (List ℕ)) → book_said text ≡ says book → mail_said text ≡ mail_is (length rules) rules → book_of rules ≡ book
     → AllSound rules → length rules ≤ 64 → ComesBack text book rules

@@ -1,7 +1,7 @@
 -- Writing the lines after a book: the old numbers of the rules that stay say the same as the rules do, and what was written and what is left are the lines.
 use mathlib.Core.Path.{◌≡◌, refl, sym, ◌∙◌}
 use mathlib.Core.Bool.{Bool, true, false}
-use mathlib.Core.List.{List, [], ◌∷◌, ◌++◌, append_assoc, append_nil}
+use mathlib.Core.List.{List, [], ◌∷◌, ◌++◌, append_assoc, append-nil}
 use Prim.Native.Nat.{ℕ, suc, ◌+◌, ◌-◌, ◌≤◌, ◌<◌}
 use native.Mathlib.Omega.{arith}
 use lib.Dec.{eqb}
@@ -82,7 +82,7 @@ module _ (present : ℕ) (olds : List ℕ) (text : List ℕ) where
   module _ (bs : List ℕ) (old new : ℕ) (l : Lines bs old new) where
     pub lines_end : present ≤ old → text ≡ bs
     unfolding notes_by notes_text
-    lines_end h = let z : present - old ≡ 0 = omega arith in l ∙ rw z (append_nil bs)
+    lines_end h = let z : present - old ≡ 0 = omega arith in l ∙ rw z (append-nil bs)
 
     module _ (h : old < present) where
       rest_drop : drop (new + 1) olds ≡ others (drop new olds)

@@ -11,7 +11,7 @@ use text::mail::read_any_rule;
 use text::rule_text::Rules;
 
 // So many rules are present, so many of them stay, and the new book has so many words.
-#[derive(Drop)]
+#[derive(Clone, Copy)]
 pub struct Kept {
     pub present: usize,
     pub rules: usize,
@@ -19,7 +19,7 @@ pub struct Kept {
 }
 
 // The rules until the text ends, or the first line that is not in form.
-#[derive(Drop)]
+#[derive(Clone, Copy)]
 pub enum Mailed {
     Rules(Kept),
     Bad(usize),

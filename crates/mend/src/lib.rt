@@ -1,4 +1,6 @@
 // Repairing a book that came by mail: document 02's E1.
+#![tactic(auto)]
+
 pub mod kept;
 pub mod mail;
 pub mod notes;

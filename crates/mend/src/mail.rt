@@ -11,7 +11,7 @@ use text::number::Number;
 use text::term_text::{MOST_BYTES, NO_LINE};
 
 // The number that `rules=` states and what is kept, or the first line that is not in form.
-#[derive(Drop)]
+#[derive(Clone, Copy)]
 pub enum Mail {
     Read(u32, Kept),
     Bad(usize),

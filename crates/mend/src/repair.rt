@@ -18,7 +18,7 @@ use text::write_book::write_good;
 const AREA: usize = 8516;
 
 // The answer, and so many bytes of the repaired text.
-#[derive(Drop)]
+#[derive(Clone, Copy)]
 pub struct Repaired {
     pub answer: Answer,
     pub length: usize,

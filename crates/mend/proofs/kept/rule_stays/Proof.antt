@@ -11,5 +11,5 @@ rule_stays_spec =
     tie.close
     (tie.spec
     (λ c κs. search rules)
-    (λ c. unsound_goes _ _ (sym c.before.sound-rule.ensures ∙ not-true _ c.if1.true))
-    (λ c. sound_stays _ _ _ (sym c.before.sound-rule.ensures ∙ not-false _ c.if1.false) refl))
+    (λ c. unsound_goes _ _ (sym c.before.sound_rule.ensures ∙ not-true _ c.if-not-sound_rule.true-raw))
+    (λ c. sound_stays _ _ _ (sym c.before.sound_rule.ensures ∙ not-false _ c.if-not-sound_rule.false-raw) refl))

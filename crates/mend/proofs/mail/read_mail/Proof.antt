@@ -16,53 +16,51 @@ use Rattle.mend.proofs.mail.read_mail.Statement.{statement}
 use Rattle.mend.proofs.mail.read_mail.Tie as tie
 
 -- the first line, the second, and the rules
-key_told : (c : tie.After-known-told) → KeyTold book_line c.before.before.before.before.before.before.before.before.before.args.text.now 0 (keys.After c.before.count_at.given.0.0)
-key_told c = rw c.before.count_at.given.1 at c.before.before.before.read-key.ensures
+key_told : (c : tie.In-After) → KeyTold book_line c.before.before.before.before.before.before.before.before.args.text.now 0 (keys.After c.in-After.count_at)
+key_told c = rw c.in-After.is at c.before.read_key.ensures
 
-count_told : (c : tie.After-known-told2) → NumberLineTold rules_key 65535 c.before.before.before.before.before.before.before.before.before.before.before.before.before.before.args.text.now c.before.before.before.before.before.before.count_at.given.0.0 (numbers.Read c.before.stated.given.0.0 c.before.stated.given.0.1.0)
-count_told c = rw c.before.stated.given.1 at c.before.before.before.read-number-line.ensures
+count_told : (c : tie.In-Read) → NumberLineTold rules_key 65535 c.before.before.before.before.before.before.before.before.before.before.before.before.args.text.now c.before.before.before.before.in-After.count_at (numbers.Read c.in-Read.stated c.in-Read.rules_at)
+count_told c = rw c.in-Read.is at c.before.read_number_line.ensures
 
-kept_told : (c : tie.After-known-told3)
-    → MailedTold (present_read 0 (drop c.before.before.before.before.before.before.before.before.before.before.before.stated.given.0.1.0 c.before.before.before.before.before.before.before.before.before.before.before.before.before.before.before.before.before.before.before.before.before.before.before.before.args.text.now)) c.before.before.before.before.before.before.before.keep-rules.new.1.1.0 c.before.before.before.before.before.before.before.keep-rules.new.1.1.1.0 (mailed.Rules c.before.kept.given.0.0)
-kept_told c = rw c.before.kept.given.1 at c.before.before.before.before.before.before.before.keep-rules.ensures
+kept_told : (c : tie.In-Rules)
+    → MailedTold (present_read 0 (drop c.before.before.before.before.before.before.before.before.in-Read.rules_at c.before.before.before.before.before.before.before.before.before.before.before.before.before.before.before.before.before.before.before.before.args.text.now)) c.before.before.before.before.before.keep_rules.new.book c.before.before.before.before.before.keep_rules.new.olds (mailed.Rules c.in-Rules.kept)
+kept_told c = rw c.in-Rules.is at c.before.before.before.before.before.keep_rules.ensures
 
-keep_rules_requires : tie.Need-keep-rules-requires
-keep_rules_requires c κs = ((count_told c.before.before).3, omega (arith, c.before.before.before.before.before.before.before.before.before.before.before.before.if1.false), c.before.before.before.before.before.before.before.before.before.before.before.before.before.before.before.before.requires.0, c.before.before.before.before.before.before.before.before.before.before.before.before.before.before.before.before.requires.1)
+keep_rules_requires : tie.Need-keep_rules-requires
+keep_rules_requires c κs = ((count_told c.before.before).3, omega (arith, c.before.before.before.before.before.before.before.before.before.before.if-text-gt-MOST_BYTES.false), c.before.before.before.before.before.before.before.before.before.before.before.before.before.before.requires.0, c.before.before.before.before.before.before.before.before.before.before.before.before.before.before.requires.1)
 
-returns_4 : tie.Need-returns-4
+returns_4 : tie.Need-returns-in-Rules
 returns_4 c =
-    let s = c.before.before.before.before.before.before.before.before.before.before.before.before.before.before.before.before.before.before.before.before.before.before.before.before.before.before.before.before.before.args in
-    let t = count_told c.before.before.before.before.before.before.before.before.before.before.before.before.before.before.before in
-    mail_came s.text.now _ _ _ c.before.before.before.before.before.before.before.before.before.before.before.before.keep-rules.new.1.1.0 _ _ _ c.before.before.before.before.before.before.before.before.before.before.before.before.before.before.before.before.before.before.before.before.before.before.before.before.before.if1.false (key_told c.before.before.before.before.before.before.before.before.before.before.before.before.before.before.before.before.before.before.before.before).0 t.0 t.1 (kept_told c.before.before.before.before.before) c.before.before.put.ensures
+    let s = c.before.before.before.before.before.before.before.before.before.before.before.before.before.before.before.before.before.before.before.before.before.before.before.before.before.args in
+    let t = count_told c.before.before.before.before.before.before.before.before.before.before.before.before.before in
+    mail_came s.text.now _ _ _ c.before.before.before.before.before.before.before.before.before.before.keep_rules.new.book _ _ _ c.before.before.before.before.before.before.before.before.before.before.before.before.before.before.before.before.before.before.before.before.before.if-text-gt-MOST_BYTES.false (key_told c.before.before.before.before.before.before.before.before.before.before.before.before.before.before.before.before.before).0 t.0 t.1 (kept_told c.before.before.before.before.before) c.before.before.put.ensures
 
-returns_5 : tie.Need-returns-5
+returns_5 : tie.Need-returns-in-Bad
 returns_5 c =
-    let s = c.before.before.before.before.before.before.before.before.before.before.before.before.before.before.before.before.before.before.before.before.before.before.before.before.args in
-    mail_stating s.text.now c.before.before.before.before.before.before.before.before.before.before.before.before.before.before.before.before.before.before.before.before.if1.false _ (key_told c.before.before.before.before.before.before.before.before.before.before.before.before.before.before.before).0 _ _ (count_told c.before.before.before.before.before.before.before.before.before.before).0 ∙ rw (rw c.before.line.given.1 at c.before.before.before.before.before.before.before.keep-rules.ensures)
+    let s = c.before.before.before.before.before.before.before.before.before.before.before.before.before.before.before.before.before.before.before.before.args in
+    mail_stating s.text.now c.before.before.before.before.before.before.before.before.before.before.before.before.before.before.before.before.if-text-gt-MOST_BYTES.false _ (key_told c.before.before.before.before.before.before.before.before.before.before.before.before).0 _ _ (count_told c.before.before.before.before.before.before.before.before).0 ∙ rw (rw c.in-Bad.is at c.before.before.before.before.before.keep_rules.ensures)
 
 pub read_mail_spec : {M : Type 1} → statement M
 read_mail_spec =
     tie.close
     (tie.spec
-    (λ c. mail_long c.before.before.before.before.args.text.now c.if1.true)
-    (λ c. search rules)
+    (λ c. mail_long c.before.before.before.before.args.text.now c.if-text-gt-MOST_BYTES.true)
     (λ c κs. search rules)
     (λ c. search rules)
     (λ c. search rules)
-    (λ c. mail_no_book c.before.before.before.before.before.before.before.before.args.text.now c.before.before.before.before.if1.false (rw c.enum_told.given.1 at c.before.before.read-key.ensures))
+    (λ c. mail_no_book c.before.before.before.before.before.before.before.before.args.text.now c.before.before.before.before.if-text-gt-MOST_BYTES.false (rw c.in_default.is at c.before.read_key.ensures))
+    (λ c κs. ((key_told c.before.before).2, omega arith))
     (λ c. search rules)
-    (λ c κs. ((key_told c.before).2, omega arith))
     (λ c. search rules)
-    (λ c. search rules)
-    (λ c. mail_no_count c.before.before.before.before.before.before.before.before.before.before.before.before.before.args.text.now c.before.before.before.before.before.before.before.before.before.if1.false _ (key_told c.before.before.before.before).0 (rw c.enum-told2.given.1 at c.before.before.read-number-line.ensures))
+    (λ c. mail_no_count c.before.before.before.before.before.before.before.before.before.before.before.before.args.text.now c.before.before.before.before.before.before.before.before.if-text-gt-MOST_BYTES.false _ (key_told c.before.before.before.before).0 (rw c.in_default-read_number_line.is at c.before.read_number_line.ensures))
     keep_rules_requires
     (λ c. search rules)
     (λ c. omega (arith, (kept_told c.before.before).many))
     (λ c κs. search rules)
     (λ c. search rules)
-    (λ c. c.before.before.put.auto.0 ∙ c.before.before.before.before.before.before.before.before.before.before.before.before.keep-rules.auto.1.1.0)
-    (λ c. c.before.before.before.before.before.before.before.before.before.before.before.before.keep-rules.auto.1.1.1.0)
+    (λ c. c.before.before.put.auto.out ∙ c.before.before.before.before.before.before.before.before.before.before.keep_rules.auto.book)
+    (λ c. c.before.before.before.before.before.before.before.before.before.before.keep_rules.auto.olds)
     returns_4
-    (λ c. c.before.before.before.before.before.before.before.keep-rules.auto.1.1.0)
-    (λ c. c.before.before.before.before.before.before.before.keep-rules.auto.1.1.1.0)
+    (λ c. c.before.before.before.before.before.keep_rules.auto.book)
+    (λ c. c.before.before.before.before.before.keep_rules.auto.olds)
     returns_5)

@@ -10,8 +10,8 @@ pub is_kept_spec : {M : Type 1} → statement M
 is_kept_spec =
     tie.close
     (tie.spec
-    (λ c. let s = c.before.args in past_olds s.olds.now s.new s.old c.if1.true)
+    (λ c. let s = c.before.args in past_olds s.olds.now s.new s.old c.if-olds-new.true)
     (λ c. search rules)
     (λ c. search rules)
-    (λ c. omega (arith, c.shared-slice-known.given c.before.before.args.new))
-    (λ c. let s = c.before.before.args in next_old s.olds.now s.new s.old _ (omega (arith, c.before.if1.false)) refl))
+    (λ c. omega (arith, c.shared_slice_known-1.given c.before.before.args.new))
+    (λ c. let s = c.before.before.args in next_old s.olds.now s.new s.old _ (omega (arith, c.before.if-olds-new.false)) refl))

@@ -10,8 +10,7 @@ pub write_was_spec : {M : Type 1} → statement M
 write_was_spec =
     tie.close
     (tie.spec
-    (λ c. let s = c.before.before.args in rw (was_none s.stated s.present c.if1.true) (omega arith, refl))
-    (λ c. search rules)
+    (λ c. let s = c.before.before.args in rw (was_none s.stated s.present c.if-stated-present.true) (omega arith, refl))
     (λ c κs. search rules)
     (λ c. search rules)
-    (λ c. let s = c.before.before.before.before.before.before.before.args in rw (was_there s.stated s.present c.before.before.before.before.before.if1.false) c.before.before.write-number-line.ensures))
+    (λ c. let s = c.before.before.before.before.before.before.before.before.args in rw (was_there s.stated s.present c.before.before.before.before.before.before.if-stated-present.false) c.before.before.write_number_line.ensures))

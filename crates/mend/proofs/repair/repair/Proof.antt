@@ -13,6 +13,6 @@ repair_spec =
     (λ c κs. search rules)
     (λ c. search rules)
     (λ c. search rules)
-    (λ c κs. (refl, refl, c.before.before.before.before.before.clear-bytes.ensures ∙ ap (λ (k : ℕ). replicate k 0) (sym c.before.before.before.before.before.clear-bytes.auto.0)))
+    (λ c κs. (refl, refl, c.before.before.before.before.before.clear_bytes.ensures ∙ ap (λ (k : ℕ). replicate k 0) (sym c.before.before.before.before.before.clear_bytes.auto.out)))
     (λ c. search rules)
-    (λ c. rw c.before.before.before.before.before.before.before.before.before.before.clear-bytes.auto.0 at c.before.before.before.before.repair-in.ensures))
+    (λ c. rw c.before.before.before.before.before.before.before.before.before.before.clear_bytes.auto.out at c.before.before.before.before.repair_in.ensures))
