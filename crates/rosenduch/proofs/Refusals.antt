@@ -104,8 +104,8 @@ module _ (book : List ℕ) (number : ℕ) (term : List ℕ) (room : ℕ) (said :
   match_book : BookJudged book said
   match_book at e = refused_says room (match_rule book number term) said (BadBook at) p (match_bad_book book number term at e)
 
-  match_rule : RuleJudged book number said
-  match_rule g e = refused_says room (match_rule book number term) said (NoRule number) p (match_no_rule book number term g e)
+  match_rule_lem : RuleJudged book number said
+  match_rule_lem g e = refused_says room (match_rule book number term) said (NoRule number) p (match_no_rule book number term g e)
 
   match_term : (rule : Rule) → check_book book ≡ Good → rule_at book number ≡ some rule → TermJudged term said
   match_term rule g f at e = refused_says room (match_rule book number term) said (BadTerm at) p (match_bad_term book number term g rule f at e)
@@ -113,7 +113,7 @@ module _ (book : List ℕ) (number : ℕ) (term : List ℕ) (room : ℕ) (said :
   match_passes : said.number < 10 → (check_book book ≡ Good) × IsTerm term
   match_passes low =
       let g = book_good said low book match_book in
-      let f = rule_there said low book number g match_rule in
+      let f = rule_there said low book number g match_rule_lem in
       (g, term_is said low term (match_term f.0 g f.1))
 
 -- ---- building a left side
@@ -257,7 +257,7 @@ refuses_bad ops kept =
       match_rule = λ book number term room o p. (
           let e = ap (λ (q : MatchRuleOutcome). q.said) (kept.match_rule book number term room o p ∙ match_given book number term room) in (
             match_book book number term room o.said e,
-            match_rule book number term room o.said e,
+            match_rule_lem book number term room o.said e,
             match_term book number term room o.said e,
             match_passes book number term room o.said e,
           )

@@ -1,2 +1,4 @@
 // The public operations of Rosenduch, one function each.
+#![tactic(auto)]
+
 pub mod operations;

@@ -8,11 +8,11 @@ use Rattle.book.proofs.Laws.{check_book_is}
 use Rattle.rosenduch.proofs.operations.check_book.Statement.{statement}
 use Rattle.rosenduch.proofs.operations.check_book.Tie as tie
 
-returns : tie.Need-returns
-returns c = ap (λ (a : Accepted). answered (accept_answer a)) (sym c.enum_told.given.1 ∙ c.before.before.accept-book.ensures) ∙ sym (check_book_is _)
+returns : tie.Need-returns-in-Sound
+returns c = ap (λ (a : Accepted). answered (accept_answer a)) (sym c.in-Sound.is ∙ c.before.accept_book.ensures) ∙ sym (check_book_is _)
 
-returns_2 : tie.Need-returns-2
-returns_2 c = ap (λ (a : Accepted). answered (accept_answer a)) (sym c.before.answer.given.1 ∙ c.before.before.before.accept-book.ensures) ∙ sym (check_book_is _)
+returns_2 : tie.Need-returns-in-Refused
+returns_2 c = ap (λ (a : Accepted). answered (accept_answer a)) (sym c.in-Refused.is ∙ c.before.accept_book.ensures) ∙ sym (check_book_is _)
 
 pub check_book_spec : {M : Type 1} → statement M
 check_book_spec = tie.close (tie.spec (λ c κs. search rules) (λ c. search rules) (λ c. search rules) returns returns_2)

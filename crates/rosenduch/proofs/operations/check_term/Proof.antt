@@ -8,11 +8,11 @@ use Rattle.term.proofs.Laws.{check_term_is}
 use Rattle.rosenduch.proofs.operations.check_term.Statement.{statement}
 use Rattle.rosenduch.proofs.operations.check_term.Tie as tie
 
-returns : tie.Need-returns
-returns c = ap (λ (k : Checked). answered (checked_term k)) (sym c.enum_told.given.1 ∙ c.before.before.check_term.ensures) ∙ sym (check_term_is _)
+returns : tie.Need-returns-in-Good
+returns c = ap (λ (k : Checked). answered (checked_term k)) (sym c.in-Good.is ∙ c.before.check_term.ensures) ∙ sym (check_term_is _)
 
-returns_2 : tie.Need-returns-2
-returns_2 c = ap (λ (k : Checked). answered (checked_term k)) (sym c.before.at.given.1 ∙ c.before.before.before.check_term.ensures) ∙ sym (check_term_is _)
+returns_2 : tie.Need-returns-in-Bad
+returns_2 c = ap (λ (k : Checked). answered (checked_term k)) (sym c.in-Bad.is ∙ c.before.check_term.ensures) ∙ sym (check_term_is _)
 
 pub check_term_spec : {M : Type 1} → statement M
 check_term_spec = tie.close (tie.spec (λ c κs. search rules) (λ c. search rules) (λ c. search rules) returns returns_2)
