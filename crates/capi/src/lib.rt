@@ -1,6 +1,8 @@
 // The thirteen public operations for C and Rust, on numbers and slices. A slice is passed as a pointer and a length, an array and a single number as a
 // pointer. Inputs come first, then lent outputs, then further results, and the place last; what comes back is document 01's number. Each
 // promises what the operation of `rosenduch` promises, where what is said is that number and that place.
+#![tactic(auto)]
+
 ghost use Rattle.std.specs.Prelude.{◌≡◌, length};
 ghost use Rattle.term.specs.Answer.{saying, answered};
 ghost use Rattle.term.specs.Checked.{check_term_gives};

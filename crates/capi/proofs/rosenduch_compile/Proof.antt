@@ -5,7 +5,7 @@ use Rattle.capi.proofs.rosenduch_compile.Statement.{statement}
 use Rattle.capi.proofs.rosenduch_compile.Tie as tie
 
 returns : tie.Need-returns
-returns c = compile_told _ _ c.say.ensures _ _ _ c.before.before.before.before.compile.ensures
+returns c = compile_told _ _ c.say.ensures _ _ _ c.before.before.before.before.compile-compiled.ensures
 
 pub rosenduch_compile_spec : {M : Type 1} → statement M
 rosenduch_compile_spec = tie.close (tie.spec (λ c κs. search rules) (λ c κs. search rules) (λ c. search rules) returns)

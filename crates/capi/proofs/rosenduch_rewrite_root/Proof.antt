@@ -5,7 +5,7 @@ use Rattle.capi.proofs.rosenduch_rewrite_root.Statement.{statement}
 use Rattle.capi.proofs.rosenduch_rewrite_root.Tie as tie
 
 returns : tie.Need-returns
-returns c = rewrite_root_told _ _ c.say.ensures _ _ _ c.before.before.before.before.rewrite_root.ensures
+returns c = rewrite_root_told _ _ c.say.ensures _ _ _ c.before.before.before.before.rewrite_root-rewritten.ensures
 
 pub rosenduch_rewrite_root_spec : {M : Type 1} → statement M
 rosenduch_rewrite_root_spec = tie.close (tie.spec (λ c κs. search rules) (λ c κs. search rules) (λ c. search rules) returns)

@@ -5,7 +5,7 @@ use Rattle.capi.proofs.rosenduch_simplify.Statement.{statement}
 use Rattle.capi.proofs.rosenduch_simplify.Tie as tie
 
 returns : tie.Need-returns
-returns c = simplify_told _ _ c.say.ensures _ _ _ _ c.before.before.before.before.simplify.ensures
+returns c = simplify_told _ _ c.say.ensures _ _ _ _ c.before.before.before.before.simplify-done.ensures
 
 pub rosenduch_simplify_spec : {M : Type 1} → statement M
 rosenduch_simplify_spec = tie.close (tie.spec (λ c κs. search rules) (λ c κs. search rules) (λ c. search rules) returns)
