@@ -1,5 +1,7 @@
 // The program `repair`: reads a book that came by mail from standard input, and prints it repaired as document 02's E1 says. What fails is
 // said on standard error.
+#![tactic(auto)]
+
 mod block;
 
 ghost use Rattle.std.specs.Prelude.{◌≡◌, length};
@@ -14,32 +16,37 @@ const ROOM: usize = 65537;
 const BLOCK: usize = 131088;
 
 // Prints what is made of the text.
-fn print_repaired(text: &[u8], out: &mut [u8])
+fn print_repaired(rt: &HostRuntime, text: &[u8], out: &mut [u8])
     requires { length out.old ≡ 131088 }
 {
     let length = repair_block(text, out);
-    print(&out[..length], b"repair: standard output");
+    print(
+        &mut rt.stdout(),
+        &mut rt.stderr(),
+        &out[..length],
+        b"repair: standard output",
+    );
 }
 
 // Reads standard input to its end, and prints.
-fn print_input(text: &mut [u8], out: &mut [u8])
+fn print_input(rt: &HostRuntime, text: &mut [u8], out: &mut [u8])
     requires { length out.old ≡ 131088 }
 {
-    match read_all(text) {
+    match read_all(&mut rt.stdin(), text) {
         Came::Bytes(n) => {
-            print_repaired(&text[..n], out);
+            print_repaired(rt, &text[..n], out);
         }
-        Came::Failed => {
-            read_failed(b"repair: standard input");
+        Came::Failed(error) => {
+            read_failed(&mut rt.stderr(), b"repair: standard input", error);
         }
     }
 }
 
-fn main() {
-    if has_arguments(b"usage: repair < FILE\n") {
+fn main(rt: HostRuntime) {
+    if has_arguments(&rt, &mut rt.stderr(), b"usage: repair < FILE\n") {
         return;
     }
     let mut text = [0u8; ROOM];
     let mut out = [0u8; BLOCK];
-    print_input(&mut text, &mut out);
+    print_input(&rt, &mut text, &mut out);
 }

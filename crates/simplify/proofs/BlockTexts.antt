@@ -1,6 +1,6 @@
 -- The blocks are their lines one after the other, and each line is short.
 use mathlib.Core.Path.{◌≡◌, sym, ap, ◌∙◌}
-use mathlib.Core.List.{List, [], ◌++◌, append_assoc, append_nil}
+use mathlib.Core.List.{List, [], ◌++◌, append_assoc, append-nil}
 use Prim.Native.Nat.{ℕ, ◌≤◌}
 use native.Mathlib.Omega.{arith}
 use lib.ListN.{length-append}
@@ -32,7 +32,7 @@ answer_lines term a steps rest =
 
 pub answer_before : (term : ℕ) (a : Answer) (steps : ℕ) (rest : List ℕ) → answer_text term a steps [] ++ rest ≡ answer_text term a steps rest
 answer_before term a steps rest =
-    ap (λ (x : List ℕ). x ++ rest) (sym (answer_lines term a steps [])) ∙ simp (append_assoc, append_nil) (answer_lines term a steps rest)
+    ap (λ (x : List ℕ). x ++ rest) (sym (answer_lines term a steps [])) ∙ simp (append_assoc, append-nil) (answer_lines term a steps rest)
 
 pub answer_wrote : (term : ℕ) (a : Answer) (steps : ℕ) (out m1 m2 m3 done : List ℕ) (x y z end : ℕ) → term ≤ 65536 → steps ≤ 65535 → Wrote out 0 x m1 (number_text term_key term [])
     → Wrote m1 x y m2 (number_text answer_key (number_of a) []) → Wrote m2 y z m3 (number_text steps_key steps []) → Wrote m3 z end done result_key → Brief (answer_text term a steps []) out done end

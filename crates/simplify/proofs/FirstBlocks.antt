@@ -78,7 +78,7 @@ module _ (book : List ℕ) (at : ℕ) (tree out done : List ℕ) (a : Answer) (e
         ready = λ q.
             record {
               book_size = refl;
-              tree_words_lem = rw lies (take_at (tree_words book) (replicate (16384 - length (tree_words book)) 0) words (sym long));
+              tree_words = rw lies (take_at (tree_words book) (replicate (16384 - length (tree_words book)) 0) words (sym long));
               tree_fits = rw (lies, length-append (tree_words book) (replicate (16384 - length (tree_words book)) 0)) (omega (arith, long));
               where_terms = refl;
               from_zero = refl;
@@ -108,7 +108,7 @@ module _ (bs book tree out done : List ℕ) where
           record {
             book_words = rw f.said (ap (λ (k : ℕ). take k book) (g.book_size ∙ length-take-le n book l) ∙ f.words);
             book_fits = omega (arith, g.book_size, length-take-le n book l);
-            tree_words_lem = rw (f.said, sym f.words) g.tree_words;
+            tree_words = rw (f.said, sym f.words) g.tree_words;
             tree_fits = g.tree_fits;
             terms = rw (f.said, g.where_terms) f.left;
             inside = rw g.where_terms f.inside;

@@ -11,7 +11,7 @@ use text::refusal::{FIRST_REFUSAL, write_refusal};
 
 // So many bytes of the block and whether the file is refused; so many words of the book and of its tree, and the offset and the number of the
 // first term.
-#[derive(Drop)]
+#[derive(Clone, Copy)]
 pub struct First {
     pub length: usize,
     pub refused: bool,

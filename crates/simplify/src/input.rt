@@ -11,14 +11,14 @@ use text::rule_text::Rules;
 use text::term_text::{MOST_BYTES, NO_LINE};
 
 // Every line is in form, or the first that is not.
-#[derive(Drop)]
+#[derive(Clone, Copy)]
 pub enum Judged {
     Good,
     Bad(usize),
 }
 
 // So many words of the book and the offset of the terms, or the first line that is not in form.
-#[derive(Drop)]
+#[derive(Clone, Copy)]
 pub enum Input {
     Words(usize, usize),
     Bad(usize),

@@ -1,5 +1,7 @@
 // The program `simplify`: reads a book and terms from standard input, and prints block after block what document 01 says. What fails is
 // said on standard error.
+#![tactic(auto)]
+
 mod blocks;
 mod first;
 mod input;
@@ -20,12 +22,25 @@ const ROOM: usize = 65537;
 const BLOCK: usize = 65536;
 
 // Prints a block, or says why it cannot.
-fn print_block(block: &[u8]) -> bool {
-    print(block, b"simplify: standard output")
+fn print_block(rt: &HostRuntime, block: &[u8]) -> bool {
+    print(
+        &mut rt.stdout(),
+        &mut rt.stderr(),
+        block,
+        b"simplify: standard output",
+    )
 }
 
 // Prints the block of each term, until the text or the output ends.
-fn print_terms(text: &[u8], from: usize, first: u32, book: &[u32], tree: &[u32], out: &mut [u8])
+fn print_terms(
+    rt: &HostRuntime,
+    text: &[u8],
+    from: usize,
+    first: u32,
+    book: &[u32],
+    tree: &[u32],
+    out: &mut [u8],
+)
     requires { (from ≤ length text.now) × (length text.now ≤ 65536) × (first ≤ from) × (length out.old ≡ 65536) }
 {
     let mut at = from;
@@ -33,7 +48,7 @@ fn print_terms(text: &[u8], from: usize, first: u32, book: &[u32], tree: &[u32],
     while at < text.len() {
         let next = next_block(text, at, term, book, tree, out);
         let length = next.length;
-        if !print_block(&out[..length]) {
+        if !print_block(rt, &out[..length]) {
             return;
         }
         at = next.at;
@@ -42,12 +57,12 @@ fn print_terms(text: &[u8], from: usize, first: u32, book: &[u32], tree: &[u32],
 }
 
 // Prints the first block, and the terms of a file that is not refused.
-fn print_file(text: &[u8], book: &mut [u32], tree: &mut [u32], out: &mut [u8])
+fn print_file(rt: &HostRuntime, text: &[u8], book: &mut [u32], tree: &mut [u32], out: &mut [u8])
     requires { (length book.old ≡ 8385) × (length tree.old ≡ 16384) × (length out.old ≡ 65536) }
 {
     let first = first_block(text, book, tree, out);
     let length = first.length;
-    if !print_block(&out[..length]) {
+    if !print_block(rt, &out[..length]) {
         return;
     }
     if first.refused {
@@ -56,6 +71,7 @@ fn print_file(text: &[u8], book: &mut [u32], tree: &mut [u32], out: &mut [u8])
     let words = first.book;
     let nodes = first.tree;
     print_terms(
+        rt,
         text,
         first.at,
         first.number,
@@ -66,26 +82,32 @@ fn print_file(text: &[u8], book: &mut [u32], tree: &mut [u32], out: &mut [u8])
 }
 
 // Reads standard input to its end, and prints.
-fn print_input(text: &mut [u8], book: &mut [u32], tree: &mut [u32], out: &mut [u8])
+fn print_input(
+    rt: &HostRuntime,
+    text: &mut [u8],
+    book: &mut [u32],
+    tree: &mut [u32],
+    out: &mut [u8],
+)
     requires { (length book.old ≡ 8385) × (length tree.old ≡ 16384) × (length out.old ≡ 65536) }
 {
-    match read_all(text) {
+    match read_all(&mut rt.stdin(), text) {
         Came::Bytes(n) => {
-            print_file(&text[..n], book, tree, out);
+            print_file(rt, &text[..n], book, tree, out);
         }
-        Came::Failed => {
-            read_failed(b"simplify: standard input");
+        Came::Failed(error) => {
+            read_failed(&mut rt.stderr(), b"simplify: standard input", error);
         }
     }
 }
 
-fn main() {
-    if has_arguments(b"usage: simplify < FILE\n") {
+fn main(rt: HostRuntime) {
+    if has_arguments(&rt, &mut rt.stderr(), b"usage: simplify < FILE\n") {
         return;
     }
     let mut text = [0u8; ROOM];
     let mut book = [0u32; BOOK];
     let mut tree = [0u32; MOST_TREE];
     let mut out = [0u8; BLOCK];
-    print_input(&mut text, &mut book, &mut tree, &mut out);
+    print_input(&rt, &mut text, &mut book, &mut tree, &mut out);
 }

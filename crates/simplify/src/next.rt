@@ -13,7 +13,7 @@ use text::refusal::FIRST_REFUSAL;
 use text::write_book::put_key;
 
 // So many bytes of the block, and the offset and the number of the next term.
-#[derive(Drop)]
+#[derive(Clone, Copy)]
 pub struct Next {
     pub length: usize,
     pub at: usize,

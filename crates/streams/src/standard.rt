@@ -2,66 +2,82 @@
 ghost use Rattle.std.specs.Prelude.{length};
 ghost use Rattle.streams.specs.Told.Told.{Within};
 
-use libc::{STDERR_FILENO, STDIN_FILENO, STDOUT_FILENO};
+use crate::reason::Reason;
+use std::env::{Env, FillError};
+use std::io;
+use std::io::{Read, Write};
 
-// So many bytes came in, or a read failed.
-#[derive(Drop)]
+// So many bytes came in, or a read failed, and why.
+#[derive(Clone, Copy)]
 pub enum Came {
     Bytes(usize),
-    Failed,
+    Failed(io::Error),
 }
 
 // One read into the lent bytes: none at the end of the input.
-fn read_some(text: &mut [u8]) -> Came
+fn read_some(input: &mut impl Read, text: &mut [u8]) -> Came
     ensures { Within (length text.old) result }
 {
-    let got = libc::read(STDIN_FILENO, text);
-    if got < 0 {
-        return Came::Failed;
+    match input.read(text) {
+        Ok(n) => Came::Bytes(n),
+        Err(error) => Came::Failed(error),
     }
-    Came::Bytes(io::count(got, text))
 }
 
 // Reads to the end of the input, or until the lent bytes are full.
-pub fn read_all(text: &mut [u8]) -> Came
+pub fn read_all(input: &mut impl Read, text: &mut [u8]) -> Came
     ensures { Within (length text.old) result }
 {
     let mut n: usize = 0;
     while n < text.len() {
-        match read_some(&mut text[n..]) {
+        match read_some(input, &mut text[n..]) {
             Came::Bytes(more) => {
                 if more == 0 {
                     return Came::Bytes(n);
                 }
                 n = n + more;
             }
-            Came::Failed => {
-                return Came::Failed;
+            Came::Failed(error) => {
+                return Came::Failed(error);
             }
         }
     }
     Came::Bytes(n)
 }
 
+// Writes a line: what failed, as the caller names it, a colon and the system's words for why. Where that fails too, nobody is left to tell.
+fn say_failed(said: &mut impl Write, name: &[u8], error: io::Error) {
+    let reason = Reason::of(error);
+    let _whole = said.write_all(name).is_ok()
+        && said.write_all(b": ").is_ok()
+        && said.write_all(reason.words()).is_ok()
+        && said.write_all(b"\n").is_ok();
+}
+
 // Says of the input with this name why a read failed.
-pub fn read_failed(input: &[u8]) {
-    os::fail(input);
+pub fn read_failed(said: &mut impl Write, input: &[u8], error: io::Error) {
+    say_failed(said, input, error);
 }
 
 // Prints a block, or says of the output with this name why it cannot.
-pub fn print(block: &[u8], output: &[u8]) -> bool {
-    if io::write_all(STDOUT_FILENO, block) {
-        return true;
+pub fn print(out: &mut impl Write, said: &mut impl Write, block: &[u8], output: &[u8]) -> bool {
+    match out.write_all(block) {
+        Ok(()) => true,
+        Err(error) => {
+            say_failed(said, output, error);
+            false
+        }
     }
-    os::fail(output);
-    false
 }
 
 // Whether there were arguments, which no program takes: the line of its usage is then said.
-pub fn has_arguments(usage: &[u8]) -> bool {
-    if os::arg_count() <= 1 {
-        return false;
+pub fn has_arguments(env: &impl Env, said: &mut impl Write, usage: &[u8]) -> bool {
+    let mut first = [0u8; 1];
+    match env.arg(1, &mut first) {
+        Err(FillError::NotPresent) => false,
+        _ => {
+            let _whole = said.write_all(usage).is_ok();
+            true
+        }
     }
-    io::write_all(STDERR_FILENO, usage);
-    true
 }

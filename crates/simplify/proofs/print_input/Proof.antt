@@ -10,26 +10,27 @@ use Rattle.streams.specs.Told.Told.{Within}
 use Rattle.simplify.proofs.print_input.Statement.{statement}
 use Rattle.simplify.proofs.print_input.Tie as tie
 
-told : (c : tie.After-known-told) → Within (length c.before.before.before.before.before.before.before.before.before.before.before.args.text.now) (came.Bytes c.before.n.given.0.0)
-told c = rw c.before.n.given.1 at c.before.before.before.before.before.read_all.ensures
+told : (c : tie.In-Bytes) → Within (length c.before.before.before.before.before.before.before.before.before.before.before.args.text.now) (came.Bytes c.in-Bytes.n)
+told c = rw c.in-Bytes.is at c.before.before.before.read_all.ensures
 
-stand : (c : tie.After-known-told) → c.before.n.given.0.0 ≤ length c.before.before.before.before.before.read_all.new.0
-stand c = omega (arith, told c, c.before.before.before.before.before.read_all.auto.0)
+stand : (c : tie.In-Bytes) → c.in-Bytes.n ≤ length c.before.before.before.read_all.new.text
+stand c = omega (arith, told c, c.before.before.before.read_all.auto.text)
 
-slice_aggregate_print_file : tie.Need-slice-aggregate-print-file
-slice_aggregate_print_file c = sym (length-take-le _ c.before.before.before.before.before.before.read_all.new.0 (stand c.before))
+slice_aggregate_print_file : tie.Need-slice_bounds-print_file-end-in-Bytes
+slice_aggregate_print_file c = sym (length-take-le _ c.before.before.before.read_all.new.text (stand c))
 
 pub print_input_spec : {M : Type 1} → statement M
 print_input_spec =
     tie.close
     (tie.spec
     (λ c κs. search rules)
+    (λ c κs. search rules)
     (λ c. search rules)
     (λ c. stand c)
     slice_aggregate_print_file
     (λ c κs. search rules)
     (λ c. search rules)
-    (λ c. search rules)
+    (λ c κs. search rules)
     (λ c κs. search rules)
     (λ c. search rules)
     (λ c. search rules)

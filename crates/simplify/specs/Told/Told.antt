@@ -55,7 +55,7 @@ BlockTold block out done n = (n ≡ length block) × (done ≡ sets out 0 block)
 -- the tree of an accepted book lies in front, and the terms stand where they stood, the first with the number 0
 pub record HeadReady (book tree : List ℕ) (at : ℕ) (r : First) : Type 0 where
   pub book_size : r.book ≡ length book
-  pub tree_words_lem : take r.tree tree ≡ tree_words book
+  pub tree_words : take r.tree tree ≡ tree_words book
   pub tree_fits : r.tree ≤ length tree
   pub where_terms : r.at ≡ at
   pub from_zero : r.number ≡ 0
@@ -69,7 +69,7 @@ pub record HeadTold (book : List ℕ) (at : ℕ) (tree out done : List ℕ) (r :
 pub record Ready (bs book tree : List ℕ) (r : First) : Type 0 where
   pub book_words : take r.book book ≡ file_book (file_said bs)
   pub book_fits : r.book ≤ length book
-  pub tree_words_lem : take r.tree tree ≡ tree_words (file_book (file_said bs))
+  pub tree_words : take r.tree tree ≡ tree_words (file_book (file_said bs))
   pub tree_fits : r.tree ≤ length tree
   pub terms : terms_read (due_after (file_book (file_said bs))) (drop r.at bs) ≡ terms_are (file_terms (file_said bs))
   pub inside : r.at ≤ length bs

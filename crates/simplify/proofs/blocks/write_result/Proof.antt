@@ -7,19 +7,19 @@ use Rattle.term.proofs.Laws.{part_short}
 use Rattle.simplify.proofs.blocks.write_result.Statement.{statement}
 use Rattle.simplify.proofs.blocks.write_result.Tie as tie
 
-slice_aggregate_write_line : tie.Need-slice-aggregate-write-line
+slice_aggregate_write_line : tie.Need-slice_bounds-write_line-end
 slice_aggregate_write_line c =
-    let s = c.before.before.before.before.args in
-    let e = c.before.part_end.ensures in
-    sym (length-take-le c.before.part_end.result s.words.now (rw e (part_short s.words.now)))
+    let s = c.before.before.before.args in
+    let e = c.part_end-end.ensures in
+    sym (length-take-le c.part_end-end.result s.words.now (rw e (part_short s.words.now)))
 
-write_line_requires : tie.Need-write-line-requires
+write_line_requires : tie.Need-write_line-requires
 write_line_requires c κs =
-    let start = c.before.before.before.before.before in
-    let far = c.before.before in
+    let start = c.before.before.before.before in
+    let far = c.before in
     let s = start.args in
-    let e = far.part_end.ensures in
-    (omega (arith, length-take-le far.part_end.result s.words.now (rw e (part_short s.words.now)), e, part_short s.words.now, start.requires), omega arith)
+    let e = far.part_end-end.ensures in
+    (omega (arith, length-take-le far.part_end-end.result s.words.now (rw e (part_short s.words.now)), e, part_short s.words.now, start.requires), omega arith)
 
 pub write_result_spec : {M : Type 1} → statement M
 write_result_spec =
@@ -29,4 +29,4 @@ write_result_spec =
     slice_aggregate_write_line
     write_line_requires
     (λ c. search rules)
-    (λ c. rw c.before.before.before.before.before.part_end.ensures at c.before.before.write-line.ensures))
+    (λ c. rw c.before.before.before.before.part_end-end.ensures at c.before.before.write_line.ensures))

@@ -12,35 +12,35 @@ use Rattle.simplify.proofs.first.first_in.Statement.{statement}
 use Rattle.simplify.proofs.first.first_in.Tie as tie
 
 -- the file that was read, whose book stands in the lent words
-told : (c : tie.After-known-told) → FileRead c.before.before.before.before.before.before.before.before.before.before.before.before.before.before.before.args.text.now c.before.before.before.before.before.before.before.read-input.new.1.0 c.before.n.given.0.0 c.before.n.given.0.1.0
-told c = rw c.before.n.given.1 at c.before.before.before.before.before.before.before.read-input.ensures
+told : (c : tie.In-Words) → FileRead c.before.before.before.before.before.before.before.before.before.before.before.before.before.args.text.now c.before.before.before.before.before.read_input.new.book c.in-Words.n c.in-Words.at
+told c = rw c.in-Words.is at c.before.before.before.before.before.read_input.ensures
 
-stand : (c : tie.After-known-told) → c.before.n.given.0.0 ≤ length c.before.before.before.before.before.before.before.read-input.new.1.0
-stand c = omega (arith, (told c).few, c.before.before.before.before.before.before.before.read-input.auto.1.0, c.before.before.before.before.before.before.before.before.before.before.before.before.before.before.before.requires.0)
+stand : (c : tie.In-Words) → c.in-Words.n ≤ length c.before.before.before.before.before.read_input.new.book
+stand c = omega (arith, (told c).few, c.before.before.before.before.before.read_input.auto.book, c.before.before.before.before.before.before.before.before.before.before.before.before.before.requires.0)
 
 -- the line that is not in form
-bad : (c : tie.After-known-told2) → BadFile c.before.before.before.before.before.before.before.before.before.before.before.before.before.before.before.args.text.now c.before.line.given.0.0
-bad c = rw c.before.line.given.1 at c.before.before.before.before.before.before.before.read-input.ensures
+bad : (c : tie.In-Bad) → BadFile c.before.before.before.before.before.before.before.before.before.before.before.before.before.args.text.now c.in-Bad.line
+bad c = rw c.in-Bad.is at c.before.before.before.before.before.read_input.ensures
 
-head_block_requires : tie.Need-head-block-requires
+head_block_requires : tie.Need-head_block-requires
 head_block_requires c κs =
-    let far = c.before.before.before in
+    let far = c.before.before in
     let f = told far in
-    (rw f.words f.rules, omega (arith, f.some_words, length-take-le c.before.before.before.before.n.given.0.0 c.before.before.before.before.before.before.before.before.before.before.read-input.new.1.0 (stand far)), c.before.before.before.before.before.before.before.before.before.before.before.before.before.before.before.before.before.before.requires.1)
+    (rw f.words f.rules, omega (arith, f.some_words, length-take-le c.before.before.in-Words.n c.before.before.before.before.before.before.before.read_input.new.book (stand far)), c.before.before.before.before.before.before.before.before.before.before.before.before.before.before.before.requires.1)
 
-returns : tie.Need-returns
+returns : tie.Need-returns-in-Words
 returns c =
-    let far = c.before.before.before.before.before.before.before.before.before in
-    let far2 = c.before.before.before.before.before.before.before.before in
+    let far = c.before.before.before.before.before.before.before in
+    let far2 = c.before.before.before.before.before.before.before in
     let far3 = c.before.before.before.before in
-    let s = c.before.before.before.before.before.before.before.before.before.before.before.before.before.before.before.before.before.before.before.before.before.before.before.args in
-    read_first s.text.now c.before.before.before.before.before.before.before.before.before.before.before.before.before.before.before.read-input.new.1.0 _ s.out.now _ far.n.given.0.0 far.n.given.0.1.0 far3.head-block.result (stand far2) (told far2) far3.head-block.ensures
+    let s = c.before.before.before.before.before.before.before.before.before.before.before.before.before.before.before.before.before.before.before.before.args in
+    read_first s.text.now c.before.before.before.before.before.before.before.before.before.before.before.before.read_input.new.book _ s.out.now _ far.in-Words.n far.in-Words.at far3.head_block.result (stand far2) (told far2) far3.head_block.ensures
 
-returns_2 : tie.Need-returns-2
+returns_2 : tie.Need-returns-in-Bad
 returns_2 c =
     let far = c.before.before.before in
-    let s = c.before.before.before.before.before.before.before.before.before.before.before.before.before.before.before.before.before.before.before.before.args in
-    bad_first s.text.now _ _ s.out.now _ c.before.before.before.before.before.before.line.given.0.0 far.write-refusal.result c.refusal.result (bad c.before.before.before.before.before) far.write-refusal.ensures c.refusal.ensures
+    let s = c.before.before.before.before.before.before.before.before.before.before.before.before.before.before.before.before.before.before.args in
+    bad_first s.text.now _ _ s.out.now _ c.before.before.before.before.before.in-Bad.line far.write_refusal.result c.refusal.result (bad c.before.before.before.before.before) far.write_refusal.ensures c.refusal.ensures
 
 pub first_in_spec : {M : Type 1} → statement M
 first_in_spec =
@@ -49,7 +49,7 @@ first_in_spec =
     (λ c κs. search rules)
     (λ c. search rules)
     (λ c. stand c)
-    (λ c. sym (length-take-le _ c.before.before.before.before.before.before.before.before.read-input.new.1.0 (stand c.before)))
+    (λ c. sym (length-take-le _ c.before.before.before.before.before.read_input.new.book (stand c)))
     head_block_requires
     (λ c. search rules)
     (λ c κs. omega (arith, (bad c.before).1))

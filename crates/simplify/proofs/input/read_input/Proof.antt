@@ -12,41 +12,41 @@ use Rattle.simplify.proofs.Inputs.{too_long, no_book_lem, book_there, due_small,
 use Rattle.simplify.proofs.input.read_input.Statement.{statement}
 use Rattle.simplify.proofs.input.read_input.Tie as tie
 
-returns : tie.Need-returns
-returns c = too_long c.before.before.before.before.args.text.now c.if1.true
+returns : tie.Need-returns-then-text-gt-MOST_BYTES
+returns c = too_long c.before.before.before.before.args.text.now c.if-text-gt-MOST_BYTES.true
 
 -- the lines of the book
-lines_told : (c : tie.After-known-told) → RulesTold book_read 8385 c.before.before.before.before.before.before.before.before.before.before.before.args.text.now 0 0 c.before.before.before.before.before.before.before.before.before.before.before.args.book.now c.before.before.before.before.before.read-lines.new.1.1.0 (rules.Words c.before.n.given.0.0 c.before.n.given.0.1.0)
-lines_told c = rw c.before.n.given.1 at c.before.before.before.before.before.read-lines.ensures
+lines_told : (c : tie.In-Words) → RulesTold book_read 8385 c.before.before.before.before.before.before.before.before.before.args.text.now 0 0 c.before.before.before.before.before.before.before.before.before.args.book.now c.before.before.before.read_lines.new.out (rules.Words c.in-Words.n c.in-Words.at)
+lines_told c = rw c.in-Words.is at c.before.before.before.read_lines.ensures
 
 -- its words stand in the lent ones
-stand : (c : tie.After-known-told) → c.before.n.given.0.0 ≤ length c.before.before.before.before.before.read-lines.new.1.1.0
-stand c = omega (arith, (lines_told c).5, c.before.before.before.before.before.read-lines.auto.1.1.0, c.before.before.before.before.before.before.before.before.before.before.before.requires)
+stand : (c : tie.In-Words) → c.in-Words.n ≤ length c.before.before.before.read_lines.new.out
+stand c = omega (arith, (lines_told c).5, c.before.before.before.read_lines.auto.out, c.before.before.before.before.before.before.before.before.before.requires)
 
-slice_aggregate_line_after : tie.Need-slice-aggregate-line-after
-slice_aggregate_line_after c = sym (length-take-le _ c.before.before.before.before.before.before.read-lines.new.1.1.0 (stand c.before))
+slice_aggregate_line_after : tie.Need-slice_bounds-line_after-end-in-Words
+slice_aggregate_line_after c = sym (length-take-le _ c.before.before.before.read_lines.new.out (stand c))
 
-line_after_requires : tie.Need-line-after-requires
-line_after_requires c κs = let start = c.before.before.before.before.before.before.before.before.before.before.before.before in book_there start.args.text.now c.before.before.before.before.before.before.before.before.if1.false start.args.book.now _ _ _ start.requires (lines_told c.before)
+line_after_requires : tie.Need-line_after-due-requires
+line_after_requires c κs = let start = c.before.before.before.before.before.before.before.before.before in book_there start.args.text.now c.before.before.before.before.before.if-text-gt-MOST_BYTES.false start.args.book.now _ _ _ start.requires (lines_told c)
 
-judge_terms_requires : tie.Need-judge-terms-requires
+judge_terms_requires : tie.Need-judge_terms-requires
 judge_terms_requires c κs =
-    let start = c.before.before.before.before.before.before.before.before.before.before.before.before.before.before in
-    let t = lines_told c.before.before.before in
-    (t.4, c.before.before.before.before.before.before.before.before.before.before.if1.false, omega (arith, due_small start.args.text.now c.before.before.before.before.before.before.before.before.before.before.if1.false start.args.book.now _ _ _ start.requires t c.before.line_after.result c.before.line_after.ensures))
+    let start = c.before.before.before.before.before.before.before.before.before.before.before in
+    let t = lines_told c.before.before in
+    (t.4, c.before.before.before.before.before.before.before.if-text-gt-MOST_BYTES.false, omega (arith, due_small start.args.text.now c.before.before.before.before.before.before.before.if-text-gt-MOST_BYTES.false start.args.book.now _ _ _ start.requires t c.before.line_after-due.result c.before.line_after-due.ensures))
 
-returns_2 : tie.Need-returns-2
+returns_2 : tie.Need-returns-in-Good
 returns_2 c =
-    let start = c.before.before.before.before.before.before.before.before.before.before.before.before.before.before.before.before.before.before.before in
-    all_there start.args.text.now c.before.before.before.before.before.before.before.before.before.before.before.before.before.before.before.if1.false start.args.book.now _ _ _ start.requires (lines_told c.before.before.before.before.before.before.before.before) c.before.before.before.before.before.before.line_after.result c.before.before.before.before.before.before.line_after.ensures (rw c.enum_told.given.1 at c.before.before.before.before.judge-terms.ensures)
+    let start = c.before.before.before.before.before.before.before.before.before.before.before.before.before.before.before in
+    all_there start.args.text.now c.before.before.before.before.before.before.before.before.before.before.before.if-text-gt-MOST_BYTES.false start.args.book.now _ _ _ start.requires (lines_told c.before.before.before.before.before.before) c.before.before.before.before.before.line_after-due.result c.before.before.before.before.before.line_after-due.ensures (rw c.in-Good.is at c.before.before.before.judge_terms.ensures)
 
-returns_3 : tie.Need-returns-3
+returns_3 : tie.Need-returns-in-Bad-judge_terms
 returns_3 c =
-    let start = c.before.before.before.before.before.before.before.before.before.before.before.before.before.before.before.before.before.before.before.before in
-    no_terms start.args.text.now c.before.before.before.before.before.before.before.before.before.before.before.before.before.before.before.before.if1.false start.args.book.now _ _ _ start.requires (lines_told c.before.before.before.before.before.before.before.before.before) c.before.before.before.before.before.before.before.line_after.result c.before.before.before.before.before.before.before.line_after.ensures c.before.line.given.0.0 (rw c.before.line.given.1 at c.before.before.before.before.before.judge-terms.ensures)
+    let start = c.before.before.before.before.before.before.before.before.before.before.before.before.before.before.before in
+    no_terms start.args.text.now c.before.before.before.before.before.before.before.before.before.before.before.if-text-gt-MOST_BYTES.false start.args.book.now _ _ _ start.requires (lines_told c.before.before.before.before.before.before) c.before.before.before.before.before.line_after-due.result c.before.before.before.before.before.line_after-due.ensures c.in-Bad-judge_terms.line (rw c.in-Bad-judge_terms.is at c.before.before.before.judge_terms.ensures)
 
-returns_4 : tie.Need-returns-4
-returns_4 c = no_book_lem c.before.before.before.before.before.before.before.before.before.before.before.args.text.now c.before.before.before.before.before.before.before.if1.false _ (rw c.before.line2.given.1 at c.before.before.before.before.before.read-lines.ensures)
+returns_4 : tie.Need-returns-in-Bad
+returns_4 c = no_book_lem c.before.before.before.before.before.before.before.before.before.args.text.now c.before.before.before.before.before.if-text-gt-MOST_BYTES.false _ (rw c.in-Bad.is at c.before.before.before.read_lines.ensures)
 
 pub read_input_spec : {M : Type 1} → statement M
 read_input_spec =

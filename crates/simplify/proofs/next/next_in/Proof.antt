@@ -14,44 +14,44 @@ use Rattle.simplify.proofs.next.next_in.Statement.{statement}
 use Rattle.simplify.proofs.next.next_in.Tie as tie
 
 -- the line that was read
-told : (c : tie.After-known-told) → TermLineTold c.before.before.before.before.before.before.before.before.before.before.before.before.before.args.text.now c.before.before.before.before.before.before.before.before.before.before.before.before.before.args.at c.before.before.before.before.before.before.before.before.before.before.before.before.before.args.words.now c.before.before.before.before.before.read-term-line.new.1.1.0 (lines.Words c.before.n.given.0.0 c.before.n.given.0.1.0)
-told c = rw c.before.n.given.1 at c.before.before.before.before.before.read-term-line.ensures
+told : (c : tie.In-Words) → TermLineTold c.before.before.before.before.before.before.before.before.before.before.before.args.text.now c.before.before.before.before.before.before.before.before.before.before.before.args.at c.before.before.before.before.before.before.before.before.before.before.before.args.words.now c.before.before.before.read_term_line.new.words (lines.Words c.in-Words.n c.in-Words.next)
+told c = rw c.in-Words.is at c.before.before.before.read_term_line.ensures
 
-stand : (c : tie.After-known-told) → c.before.n.given.0.0 ≤ length c.before.before.before.before.before.read-term-line.new.1.1.0
+stand : (c : tie.In-Words) → c.in-Words.n ≤ length c.before.before.before.read_term_line.new.words
 stand c =
-    let s = c.before.before.before.before.before.before.before.before.before.before.before.before.before.args in line_fits s.book.now s.tree.now s.term s.text.now s.at s.words.now _ c.before.n.given.0.0 c.before.n.given.0.1.0 (told c) c.before.before.before.before.before.before.before.before.before.before.before.before.before.requires.2 c.before.before.before.before.before.read-term-line.auto.1.1.0
+    let s = c.before.before.before.before.before.before.before.before.before.before.before.args in line_fits s.book.now s.tree.now s.term s.text.now s.at s.words.now _ c.in-Words.n c.in-Words.next (told c) c.before.before.before.before.before.before.before.before.before.before.before.requires.2 c.before.before.before.read_term_line.auto.words
 
-returns : tie.Need-returns
+returns : tie.Need-returns-in_default
 returns c =
-    let far = c.before.before.before.before in
-    let s = c.before.before.before.before.before.before.before.before.before.before.before.before.args in
-    no_line s.book.now s.tree.now s.term s.text.now s.at s.words.now far.read-term-line.new.1.1.0 s.out.now (rw c.enum_told.given.1 at far.read-term-line.ensures)
+    let far = c.before.before.before in
+    let s = c.before.before.before.before.before.before.before.before.before.before.before.args in
+    no_line s.book.now s.tree.now s.term s.text.now s.at s.words.now far.read_term_line.new.words s.out.now (rw c.in_default.is at far.read_term_line.ensures)
 
-returns_2 : tie.Need-returns-2
+returns_2 : tie.Need-returns-then-number-ge-FIRST_REFUSAL
 returns_2 c =
-    let start = c.before.before.before.before.before.before.before.before.before.before.before.before.before.before.before.before.before.before.before.before.before.before.before.before.before.before.before.before.before.before in
-    let far = c.before.before.before.before.before.before.before.before.before.before.before.before.before.before.before.before.before.before in
+    let start = c.before.before.before.before.before.before.before.before.before.before.before.before.before.before.before.before.before.before.before.before.before.before.before.before.before.before.before.before in
+    let far = c.before.before.before.before.before.before.before.before.before.before.before.before.before.before.before.before.before in
     let far2 = c.before.before in
     let s = start.args in
-    let run = c.before.before.before.before.before.before.before.before.before.before.before.before.before.before.simplify in
-    let ended = came_simplify _ _ _ _ _ run.result run.new.1.1.1.1.0 run.ensures in
-    let lines = c.before.before.before.before.before.before.before.before.before.write-answer in
-    refused_there s.book.now s.tree.now s.term s.text.now s.at s.words.now c.before.before.before.before.before.before.before.before.before.before.before.before.before.before.before.before.before.before.before.before.before.before.read-term-line.new.1.1.0 far.n.given.0.0 far.n.given.0.1.0 (told c.before.before.before.before.before.before.before.before.before.before.before.before.before.before.before.before.before) start.requires.2 run.result.answer run.result.steps
-    (rw start.requires.3 at ended.0) ended.2 s.out.now lines.new.1.1.1.0 _ lines.result far2.put-key.result lines.ensures (omega (arith, c.before.before.before.before.before.before.number.ensures, c.before.before.before.before.before.if1.true)) far2.put-key.ensures
+    let run = c.before.before.before.before.before.before.before.before.before.before.before.before.before.before.before.simplify-run in
+    let ended = came_simplify _ _ _ _ _ run.result run.new.out run.ensures in
+    let lines = c.before.before.before.before.before.before.before.before.before.before.write_answer-start in
+    refused_there s.book.now s.tree.now s.term s.text.now s.at s.words.now c.before.before.before.before.before.before.before.before.before.before.before.before.before.before.before.before.before.before.before.before.read_term_line.new.words far.in-Words.n far.in-Words.next (told c.before.before.before.before.before.before.before.before.before.before.before.before.before.before.before.before.before) start.requires.2 run.result.answer run.result.steps
+    (rw start.requires.3 at ended.0) ended.2 s.out.now lines.new.out _ lines.result far2.put_key.result lines.ensures (omega (arith, c.before.before.before.before.before.before.before.number.ensures, c.before.before.before.before.before.before.if-number-ge-FIRST_REFUSAL.true)) far2.put_key.ensures
 
-returns_3 : tie.Need-returns-3
+returns_3 : tie.Need-returns
 returns_3 c =
-    let start = c.before.before.before.before.before.before.before.before.before.before.before.before.before.before.before.before.before.before.before.before.before.before.before.before.before.before.before.before.before.before in
-    let far = c.before.before.before.before.before.before.before.before.before.before.before.before.before.before.before.before.before.before in
+    let start = c.before.before.before.before.before.before.before.before.before.before.before.before.before.before.before.before.before.before.before.before.before.before.before.before.before.before in
+    let far = c.before.before.before.before.before.before.before.before.before.before.before.before.before.before.before in
     let far2 = c.before.before in
     let s = start.args in
-    let run = c.before.before.before.before.before.before.before.before.before.before.before.before.before.before.simplify in
-    let ended = came_simplify _ _ _ _ _ run.result run.new.1.1.1.1.0 run.ensures in
-    let lines = c.before.before.before.before.before.before.before.before.before.write-answer in
-    let result = run.new.1.1.1.1.0 in
-    result_there s.book.now s.tree.now s.term s.text.now s.at s.words.now c.before.before.before.before.before.before.before.before.before.before.before.before.before.before.before.before.before.before.before.before.before.before.read-term-line.new.1.1.0 far.n.given.0.0 far.n.given.0.1.0 (told c.before.before.before.before.before.before.before.before.before.before.before.before.before.before.before.before.before) start.requires.2 run.result.answer run.result.steps
-    (rw start.requires.3 at ended.0) ended.2 s.out.now lines.new.1.1.1.0 _ lines.result far2.write-result.result lines.ensures result (omega (arith, c.before.before.before.before.before.before.number.ensures, c.before.before.before.before.before.if1.false)) (rw start.requires.3 at ended.1)
-    (run.auto.1.1.1.1.0 ∙ start.requires.3) (part_short result) far2.write-result.ensures
+    let run = c.before.before.before.before.before.before.before.before.before.before.before.before.before.simplify-run in
+    let ended = came_simplify _ _ _ _ _ run.result run.new.out run.ensures in
+    let lines = c.before.before.before.before.before.before.before.before.write_answer-start in
+    let result = run.new.out in
+    result_there s.book.now s.tree.now s.term s.text.now s.at s.words.now c.before.before.before.before.before.before.before.before.before.before.before.before.before.before.before.before.before.before.read_term_line.new.words far.in-Words.n far.in-Words.next (told c.before.before.before.before.before.before.before.before.before.before.before.before.before.before.before) start.requires.2 run.result.answer run.result.steps
+    (rw start.requires.3 at ended.0) ended.2 s.out.now lines.new.out _ lines.result far2.write_result.result lines.ensures result (omega (arith, c.before.before.before.before.before.number.ensures, c.before.before.before.before.if-number-ge-FIRST_REFUSAL.false)) (rw start.requires.3 at ended.1)
+    (run.auto.out ∙ start.requires.3) (part_short result) far2.write_result.ensures
 
 pub next_in_spec : {M : Type 1} → statement M
 next_in_spec =
@@ -62,14 +62,13 @@ next_in_spec =
     (λ c. search rules)
     (λ c. search rules)
     returns
-    (λ c. omega (arith, c.before.before.before.before.before.before.before.before.before.before.before.before.before.requires.1))
+    (λ c. omega (arith, c.before.before.before.before.before.before.before.before.before.before.before.requires.1))
     (λ c. stand c)
-    (λ c. sym (length-take-le _ c.before.before.before.before.before.before.read-term-line.new.1.1.0 (stand c.before)))
+    (λ c. sym (length-take-le _ c.before.before.before.read_term_line.new.words (stand c)))
     (λ c κs. search rules)
     (λ c. search rules)
     (λ c κs. search rules)
     (λ c κs. search rules)
-    (λ c. search rules)
     (λ c κs. search rules)
     (λ c. search rules)
     (λ c. search rules)
