@@ -29,24 +29,21 @@ fn say(answer: Answer, at: &mut usize) -> u32
 }
 
 // Checks that words are one term.
-#[unsafe(no_mangle)]
-pub extern "C" fn rosenduch_check_term(term: &[u32], at: &mut usize) -> u32
+pub fn rosenduch_check_term(term: &[u32], at: &mut usize) -> u32
     ensures { saying result at.new ≡ check_term_gives term.now }
 {
     say(operations::check_term(term), at)
 }
 
 // Checks that words are a book.
-#[unsafe(no_mangle)]
-pub extern "C" fn rosenduch_check_book(book: &[u32], at: &mut usize) -> u32
+pub fn rosenduch_check_book(book: &[u32], at: &mut usize) -> u32
     ensures { saying result at.new ≡ check_book_gives book.now }
 {
     say(operations::check_book(book), at)
 }
 
 // Matches one rule of a book against a term, with the number of arguments set aside.
-#[unsafe(no_mangle)]
-pub extern "C" fn rosenduch_match_rule(
+pub fn rosenduch_match_rule(
     book: &[u32],
     rule: u32,
     term: &[u32],
@@ -65,8 +62,7 @@ pub extern "C" fn rosenduch_match_rule(
 }
 
 // Builds a rule's left side from bodies.
-#[unsafe(no_mangle)]
-pub extern "C" fn rosenduch_build_left(
+pub fn rosenduch_build_left(
     book: &[u32],
     rule: u32,
     bodies: &[u32],
@@ -81,13 +77,7 @@ pub extern "C" fn rosenduch_build_left(
 }
 
 // Compiles a book, with the number of the tree's words.
-#[unsafe(no_mangle)]
-pub extern "C" fn rosenduch_compile(
-    book: &[u32],
-    out: &mut [u32],
-    words: &mut u32,
-    at: &mut usize,
-) -> u32
+pub fn rosenduch_compile(book: &[u32], out: &mut [u32], words: &mut u32, at: &mut usize) -> u32
     ensures { compile_came (saying result at.new) words.new out.new ≡ compile_gives book.now (length out.old) }
 {
     let compiled = operations::compile(book, out);
@@ -97,8 +87,7 @@ pub extern "C" fn rosenduch_compile(
 }
 
 // Matches a term by a tree, with the rule that it names, the number of arguments set aside and the nodes visited.
-#[unsafe(no_mangle)]
-pub extern "C" fn rosenduch_match_tree(
+pub fn rosenduch_match_tree(
     tree: &[u32],
     term: &[u32],
     bodies: &mut [u32],
@@ -120,8 +109,7 @@ pub extern "C" fn rosenduch_match_tree(
 }
 
 // Rewrites a term at its root, with the nodes visited.
-#[unsafe(no_mangle)]
-pub extern "C" fn rosenduch_rewrite_root(
+pub fn rosenduch_rewrite_root(
     book: &[u32],
     tree: &[u32],
     term: &[u32],
@@ -139,8 +127,7 @@ pub extern "C" fn rosenduch_rewrite_root(
 }
 
 // Simplifies a term, with the steps made and the nodes visited.
-#[unsafe(no_mangle)]
-pub extern "C" fn rosenduch_simplify(
+pub fn rosenduch_simplify(
     book: &[u32],
     tree: &[u32],
     term: &[u32],
@@ -161,40 +148,35 @@ pub extern "C" fn rosenduch_simplify(
 }
 
 // Reads the text of a book.
-#[unsafe(no_mangle)]
-pub extern "C" fn rosenduch_read_book(text: &[u8], out: &mut [u32], at: &mut usize) -> u32
+pub fn rosenduch_read_book(text: &[u8], out: &mut [u32], at: &mut usize) -> u32
     ensures { read_book_came (saying result at.new) out.new ≡ read_book_gives text.now (length out.old) }
 {
     say(operations::read_book(text, out), at)
 }
 
 // Writes the text of a book.
-#[unsafe(no_mangle)]
-pub extern "C" fn rosenduch_write_book(book: &[u32], out: &mut [u8], at: &mut usize) -> u32
+pub fn rosenduch_write_book(book: &[u32], out: &mut [u8], at: &mut usize) -> u32
     ensures { write_book_came (saying result at.new) out.new ≡ write_book_gives book.now (length out.old) }
 {
     say(operations::write_book(book, out), at)
 }
 
 // Repairs the text of a book that came by mail.
-#[unsafe(no_mangle)]
-pub extern "C" fn rosenduch_repair_book(text: &[u8], out: &mut [u8], at: &mut usize) -> u32
+pub fn rosenduch_repair_book(text: &[u8], out: &mut [u8], at: &mut usize) -> u32
     ensures { repair_book_came (saying result at.new) out.new ≡ repair_book_gives text.now (length out.old) }
 {
     say(operations::repair_book(text, out), at)
 }
 
 // Reads the text of a term.
-#[unsafe(no_mangle)]
-pub extern "C" fn rosenduch_read_term(text: &[u8], out: &mut [u32], at: &mut usize) -> u32
+pub fn rosenduch_read_term(text: &[u8], out: &mut [u32], at: &mut usize) -> u32
     ensures { read_term_came (saying result at.new) out.new ≡ read_term_gives text.now (length out.old) }
 {
     say(operations::read_term(text, out), at)
 }
 
 // Writes the text of a term.
-#[unsafe(no_mangle)]
-pub extern "C" fn rosenduch_write_term(term: &[u32], out: &mut [u8], at: &mut usize) -> u32
+pub fn rosenduch_write_term(term: &[u32], out: &mut [u8], at: &mut usize) -> u32
     ensures { write_term_came (saying result at.new) out.new ≡ write_term_gives term.now (length out.old) }
 {
     say(operations::write_term(term, out), at)
