@@ -15,7 +15,7 @@ repair: target/bin/repair
 
 target/bin/simplify target/bin/repair: target/bin/%: $(sources)
 	@echo 'make: proving and building $*' >&2
-	@rt check $* </dev/null >&2
+	@tools/build $*
 	@touch $@
 
 # Every crate proved, every must-fail edit refused, every program run, then the tests.
@@ -25,7 +25,7 @@ test:
 # The archive for C and Rust.
 target/staticlib/libcapi.a: $(sources)
 	@echo 'make: proving and building the library' >&2
-	@rt staticlib capi </dev/null >&2
+	@tools/build capi
 	@touch $@
 
 cargo := CARGO_TARGET_DIR=target/cargo CARGO_NET_OFFLINE=true cargo run -q --release --manifest-path

@@ -1,5 +1,5 @@
 //! Finds the archive of the proved library, `libcapi.a`: in the folder that `ROSENDUCH_LIB` names, or else in `../target/staticlib`, where
-//! `rt staticlib capi` writes it.
+//! `tools/build capi` puts it.
 
 use std::env;
 use std::path::PathBuf;

@@ -9,7 +9,6 @@ use lib.Dec.{leb, ltb}
 use lib.ListN.{length, take, drop, length-append, length-drop, take-append-drop}
 use lib.Seq.{take_at, drop_at, drop-drop, length-take-le}
 use borrow.Author.Tests.{leb-true, le-leb}
-use Rattle.term.specs.declared.check.Checked.{Checked}
 use Rattle.term.specs.declared.check.Checked.TheVariants.{Good, Bad}
 use Rattle.term.specs.Word.{pick}
 use Rattle.book.specs.Book.{Rule, rule_of, judged, good_next, after_next, judge, check_book}

@@ -9,7 +9,6 @@ use Rattle.term.specs.declared.answer.Answer.{Answer}
 use Rattle.term.specs.declared.answer.Answer.TheVariants.{BadBook}
 use Rattle.term.specs.Answer.{number_of, answered}
 use Rattle.term.proofs.Laws.{never}
-use Rattle.book.specs.declared.accept.Accepted.{Accepted}
 use Rattle.book.specs.declared.accept.Accepted.TheVariants.{Sound, Refused}
 use Rattle.book.specs.Book.{check_book}
 use Rattle.book.specs.Accept.{judged, accept, accept_answer, check_book_gives}

@@ -1,9 +1,9 @@
 -- The clauses of the definitions on rules, as equations, for a crate that does not open them.
 use mathlib.Core.Path.{◌≡◌, refl}
-use mathlib.Core.Bool.{Bool, true, false, ◌&&◌}
-use mathlib.Core.List.{List, [], ◌∷◌}
-use mathlib.Core.Option.{Option, none, some}
-use Prim.Native.Nat.{ℕ, zero, suc}
+use mathlib.Core.Bool.{true, false, ◌&&◌}
+use mathlib.Core.List.{[]}
+use mathlib.Core.Option.{some}
+use Prim.Native.Nat.{ℕ, suc}
 use lib.Dec.{leb}
 use Rattle.term.specs.Word.{Head, symbol, abstraction, variable, pattern}
 use Rattle.term.specs.Row.{Row, nothing, node}

@@ -1,7 +1,7 @@
 -- Document 01's sentences on the book, each computed from the definitions on a book that keeps it or breaks it.
 use mathlib.Core.Path.{◌≡◌, refl}
 use mathlib.Core.List.{List, [], ◌∷◌, ◌++◌}
-use Prim.Native.Nat.{ℕ, ◌+◌}
+use Prim.Native.Nat.{ℕ}
 use lib.ListN.{length}
 use Rattle.term.specs.declared.check.Checked.TheVariants.{Good, Bad}
 use Rattle.term.specs.Word.{word, kind, rank, count, ident, head_of, head_with}

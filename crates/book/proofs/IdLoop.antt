@@ -13,7 +13,7 @@ use borrow.Author.Tests.{le-leb, lt-leb, leb-true}
 use Rattle.term.specs.Word.{Head, symbol, abstraction, variable, pattern, pick, ident_of, head_of}
 use Rattle.term.specs.Check.{rank_or}
 use Rattle.term.proofs.Laws.{never, variable_word, rank_variable}
-use Rattle.book.specs.Rule.{id_before, list_for}
+use Rattle.book.specs.Rule.{id_before}
 use Rattle.book.specs.Told.Ids.{id_before_o, variable_ids, list_in, is_list, four_of}
 
 abbrev pub ids_then : List ℕ → Option (List ℕ) → Option (List ℕ)

@@ -3,16 +3,15 @@ use mathlib.Core.Path.{◌≡◌, refl, sym, ap, ◌∙◌}
 use mathlib.Core.Bool.{Bool, true, false}
 use mathlib.Core.List.{List, [], ◌∷◌, ◌++◌, append-nil}
 use mathlib.Core.Option.{some}
-use Prim.Native.Nat.{ℕ, zero, suc, ◌+◌, ◌≤◌, ◌<◌}
+use Prim.Native.Nat.{ℕ, suc, ◌+◌, ◌≤◌, ◌<◌}
 use native.Mathlib.Omega.{arith}
 use lib.Dec.{ltb}
-use lib.ListN.{length, length-append}
-use borrow.Author.Tests.{ltb-false, lt-ltb, le-ltb}
-use Rattle.term.specs.declared.check.Checked.{Checked}
+use lib.ListN.{length}
+use borrow.Author.Tests.{lt-ltb, le-ltb}
 use Rattle.term.specs.declared.check.Checked.TheVariants.{Good, Bad}
 use Rattle.term.specs.Word.{pick}
 use Rattle.term.proofs.Laws.{never}
-use Rattle.book.specs.Book.{Rule, rule_of, judged, good_next, after_next, judge, check_book, sound, together, book_of}
+use Rattle.book.specs.Book.{Rule, rule_of, judged, judge, check_book, sound, together, book_of}
 use Rattle.book.proofs.Above.{words_rule, rule_words_lem, judge_end, judge_next}
 
 -- the words are one rule

@@ -1,9 +1,9 @@
 -- The list of a pattern variable: what is found in words is the row's.
-use mathlib.Core.Path.{◌≡◌, refl, sym, ap, ◌∙◌}
+use mathlib.Core.Path.{◌≡◌, refl, sym, ap}
 use mathlib.Core.Bool.{Bool, true, false}
-use mathlib.Core.List.{List, [], ◌∷◌, ◌++◌}
+use mathlib.Core.List.{List, ◌++◌}
 use mathlib.Core.Option.{Option, none, some}
-use Prim.Native.Nat.{ℕ, zero, suc, ◌≤◌, ◌<◌}
+use Prim.Native.Nat.{ℕ, suc, ◌≤◌, ◌<◌}
 use native.Mathlib.Omega.{arith}
 use lib.Dec.{leb}
 use lib.ListN.{length}
@@ -11,7 +11,7 @@ use borrow.Author.Tests.{le-leb, leb-false}
 use Rattle.term.specs.Word.{Head, symbol, abstraction, variable, pattern, pick}
 use Rattle.term.specs.Row.{Row, nothing, node, width, words, Formed}
 use Rattle.term.specs.Renumber.{good_list}
-use Rattle.term.proofs.Laws.{never, width_nothing, width_node, formed_node, good_true}
+use Rattle.term.proofs.Laws.{never, width_nothing, width_node, good_true}
 use Rattle.book.specs.Rule.{id_before, ids_of, list_for}
 use Rattle.book.specs.Told.Ids.{variable_ids, list_in}
 use Rattle.book.proofs.SideLaws.{ids_row, ids_length}

@@ -1,12 +1,12 @@
 -- The pattern variables of a row are those of its words.
-use mathlib.Core.Path.{◌≡◌, refl, sym, ap, ◌∙◌}
+use mathlib.Core.Path.{◌≡◌, refl, sym, ◌∙◌}
 use mathlib.Core.Bool.{Bool, true, false, ◌&&◌, ◌||◌}
 use mathlib.Core.List.{List, [], ◌∷◌, ◌++◌}
-use Prim.Native.Nat.{ℕ, zero, suc, ◌+◌, ◌≤◌, ◌<◌}
+use Prim.Native.Nat.{ℕ, suc, ◌≤◌}
 use native.Mathlib.Omega.{arith}
 use lib.Dec.{leb, ltb, eqb}
 use borrow.Author.Tests.{le-leb, leb-true}
-use Rattle.term.specs.Word.{Head, symbol, abstraction, variable, pattern, pick, kind, count, ident, word, InTable, kind_of, count_of, ident_of}
+use Rattle.term.specs.Word.{Head, symbol, abstraction, variable, pattern, pick, word, InTable, kind_of, count_of, ident_of}
 use Rattle.term.specs.Row.{Row, nothing, node, words, Formed}
 use Rattle.term.proofs.Laws.{words_nothing, words_node, formed_node, kind_word, count_word_lem, ident_word, kind_symbol, kind_abstraction, kind_variable, kind_pattern, count_pattern, ident_pattern}
 use Rattle.book.specs.Rule.{counted, one_count, no_other}

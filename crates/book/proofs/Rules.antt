@@ -1,7 +1,7 @@
 -- What the rules of a good book have, and where their sides lie.
-use mathlib.Core.Path.{◌≡◌, refl, sym, ap, ◌∙◌}
+use mathlib.Core.Path.{◌≡◌, refl, sym, ◌∙◌}
 use mathlib.Core.Bool.{Bool, true, false, ◌&&◌}
-use mathlib.Core.List.{List, [], ◌∷◌, ◌++◌}
+use mathlib.Core.List.{List, [], ◌∷◌}
 use mathlib.Core.Option.{Option, none, some}
 use Prim.Native.Nat.{ℕ, zero, suc, ◌+◌, ◌-◌, ◌≤◌, ◌<◌}
 use native.Mathlib.Omega.{arith}
@@ -11,7 +11,7 @@ use borrow.Author.Tests.{leb-true, ltb-true, ltb-false, eqb-true, eqb-false}
 use Rattle.term.specs.declared.check.Checked.{Checked}
 use Rattle.term.specs.declared.check.Checked.TheVariants.{Good, Bad}
 use Rattle.term.specs.Word.{pick, kind_of, ident_of, count_of}
-use Rattle.term.specs.Row.{Row, words, read}
+use Rattle.term.specs.Row.{read}
 use Rattle.term.specs.Check.{IsTree, check}
 use Rattle.term.proofs.Laws.{never, and_left, and_right, and_both}
 use Rattle.book.specs.declared.book.Sides.{Sides}
@@ -19,10 +19,10 @@ use Rattle.book.specs.declared.book.Found.{Found}
 use Rattle.book.specs.declared.book.Found.TheVariants as found
 use Rattle.book.specs.Rule.{side_limits, is_good, root_symbol, left_shape, right_shape, shaped, counted, one_count, all_occur, no_other, good_left, good_right, good_rule}
 use Rattle.book.specs.Book.{Rule, rule_of, judged, good_next, after_next, judge, check_book, next_o, nth_rule, rule_at}
-use Rattle.book.specs.Told.Found.{sides_of, placed, end_next, seek, sides_at}
+use Rattle.book.specs.Told.Found.{placed, end_next, seek, sides_at}
 use Rattle.book.specs.Told.Occurs.{occurs_in, below_vars, counts_as}
 use Rattle.book.proofs.Sides.{side_tree, tree_read, good_is}
-use Rattle.book.proofs.Places.{Lying, LyingO, lying, Placed, lies_placed, seek_nothing}
+use Rattle.book.proofs.Places.{LyingO, lying, seek_nothing}
 use Rattle.book.proofs.Occurrences.{below_is, counts_is, counted_occurs}
 
 -- ---- one rule

@@ -1,20 +1,20 @@
 -- Sides of rules in words: the list of a pattern variable, and what is told of a row by its first tree and the rest.
-use mathlib.Core.Path.{◌≡◌, refl, sym, ap, ap₂, ◌∙◌}
+use mathlib.Core.Path.{◌≡◌, refl, sym, ap, ◌∙◌}
 use mathlib.Core.Bool.{Bool, true, false, ◌&&◌}
-use mathlib.Core.List.{List, [], ◌∷◌, ◌++◌, append_assoc, append-nil}
+use mathlib.Core.List.{List, ◌∷◌, ◌++◌, append_assoc, append-nil}
 use mathlib.Core.Option.{Option, none, some}
-use Prim.Native.Nat.{ℕ, zero, suc, ◌+◌, ◌-◌, ◌≤◌, ◌<◌, max}
+use Prim.Native.Nat.{ℕ, suc, ◌+◌, ◌-◌, ◌≤◌, ◌<◌}
 use native.Mathlib.Omega.{arith}
 use native.Mathlib.Numerals.{add-one}
 use lib.Dec.{leb, eqb}
 use lib.ListN.{length, drop, get_or, length-append, length-drop}
 use lib.Seq.{drop-cons, drop-drop, drop_at}
-use borrow.Author.Tests.{eq-eqb, ne_eqb, le-leb}
+use borrow.Author.Tests.{le-leb}
 use Rattle.term.specs.declared.renumber.Passed.{Passed}
 use Rattle.term.specs.declared.renumber.Passed.TheVariants.{Done, Stuck}
 use Rattle.term.specs.Word
 use Rattle.term.specs.Word.{Head, symbol, abstraction, variable, pattern, pick, kind, kind_of, count_of, ident_of, word, InTable, head_of}
-use Rattle.term.specs.Row.{Row, nothing, node, width, words, nesting, Formed}
+use Rattle.term.specs.Row.{Row, nothing, node, width, words, Formed}
 use Rattle.term.specs.Renumber.{inside}
 use Rattle.term.specs.Told.Walk.{inside_word}
 use Rattle.term.proofs.Laws.{never, words_node, words_nothing, width_node, width_nothing, nesting_node, nesting_nothing, FormedNode, formed_node, node_formed, formed_nothing, count_word_lem, kind_word, ident_word, head_word_lem, inside_is, kind_symbol, kind_abstraction, kind_variable, kind_pattern, count_variable, count_pattern, ident_variable, inside_symbol, inside_abstraction, inside_pattern, pattern_few}
@@ -23,7 +23,7 @@ use Rattle.book.specs.declared.shape.Side.TheVariants.{Left, Right}
 use Rattle.book.specs.declared.shape.Front.{Front}
 use Rattle.book.specs.declared.shape.Front.TheVariants.{Past, Inside, Bad}
 use Rattle.book.specs.Rule.{id_before, ids_of, list_for, left_shape, right_shape}
-use Rattle.book.specs.Told.Ids.{id_before_o, variable_ids, list_in}
+use Rattle.book.specs.Told.Ids.{variable_ids, list_in}
 use Rattle.book.specs.Told.Shape.{shape_of, front_of, SideStands, SideTold}
 
 -- ---- the list in words is the list in the row

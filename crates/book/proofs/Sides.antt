@@ -1,20 +1,20 @@
 -- The sides of a rule: from what a walk tells to what is asked of a side.
 use mathlib.Core.Path.{◌≡◌, refl, sym, ap, ◌∙◌}
 use mathlib.Core.Bool.{Bool, true, false, ◌&&◌}
-use mathlib.Core.List.{List, [], ◌∷◌, ◌++◌, append-nil}
-use mathlib.Core.Option.{Option, none, some}
-use Prim.Native.Nat.{ℕ, zero, suc, ◌+◌, ◌-◌, ◌≤◌, ◌<◌}
+use mathlib.Core.List.{List, [], ◌++◌, append-nil}
+use mathlib.Core.Option.{some}
+use Prim.Native.Nat.{ℕ, suc, ◌+◌, ◌≤◌, ◌<◌}
 use native.Mathlib.Omega.{arith}
-use lib.Dec.{leb, ltb, eqb}
-use lib.ListN.{length, drop, get_or}
+use lib.Dec.{ltb, eqb}
+use lib.ListN.{length, get_or}
 use borrow.Author.Tests.{le-leb, lt-leb, lt-ltb}
 use Rattle.term.specs.declared.check.Checked.{Checked}
 use Rattle.term.specs.declared.check.Checked.TheVariants.{Good, Bad}
 use Rattle.term.specs.declared.renumber.Passed.TheVariants.{Done, Stuck}
-use Rattle.term.specs.Word.{Head, symbol, abstraction, variable, pattern, pick, kind, word, InTable, kind_of}
-use Rattle.term.specs.Row.{Row, nothing, node, width, words, nesting, Formed, Got, read}
-use Rattle.term.specs.Check.{Limits, IsTree, check}
-use Rattle.term.proofs.Laws.{never, and_left, and_right, good_tree, tree_good, read_words_lem, words_node, width_nothing, formed_node, kind_word, kind_symbol, kind_abstraction, kind_variable, kind_pattern}
+use Rattle.term.specs.Word.{Head, symbol, abstraction, variable, pattern, pick, word, InTable, kind_of}
+use Rattle.term.specs.Row.{Row, nothing, node, width, words, Formed, read}
+use Rattle.term.specs.Check.{IsTree, check}
+use Rattle.term.proofs.Laws.{never, and_left, good_tree, read_words_lem, words_node, width_nothing, formed_node, kind_word, kind_symbol, kind_abstraction, kind_variable, kind_pattern}
 use Rattle.book.specs.declared.shape.Side.{Side}
 use Rattle.book.specs.declared.shape.Side.TheVariants.{Left, Right}
 use Rattle.book.specs.Rule.{side_limits, is_good, root_symbol, left_shape, right_shape, shaped, no_other, all_occur, one_count, good_left, good_right, good_rule}

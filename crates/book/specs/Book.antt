@@ -1,5 +1,5 @@
 -- Document 01, "The book": the number of rules, then the rules, and nothing after; and the first bad rule.
-use Rattle.std.specs.Prelude.{ℕ, zero, suc, ◌+◌, ◌≤◌, ◌≡◌, Bool, true, false, ◌&&◌, List, [], ◌∷◌, ◌++◌, length, take, drop, leb, ltb}
+use Rattle.std.specs.Prelude.{ℕ, zero, suc, ◌+◌, Bool, true, false, List, [], ◌∷◌, ◌++◌, length, take, drop, leb, ltb}
 use Rattle.std.proofs.Math.Option.{Option, none, some}
 use Rattle.term.specs.declared.check.Checked.{Checked}
 use Rattle.term.specs.declared.check.Checked.TheVariants.{Good, Bad}

@@ -2,13 +2,13 @@
 -- was not, and each way strikes or enters one thing that was.
 use mathlib.Core.Path.{◌≡◌, refl, sym, ap, ◌∙◌}
 use mathlib.Core.Bool.{Bool, true, false, ◌&&◌}
-use mathlib.Core.List.{List, [], ◌∷◌}
-use mathlib.Core.Logic.{◌⊎◌, inl, inr}
+use mathlib.Core.List.{List}
+use mathlib.Core.Logic.{inl, inr}
 use Prim.Native.Nat.{ℕ, zero, suc, ◌+◌, ◌-◌, ◌*◌, ◌/◌, ◌≤◌, ◌<◌}
 use native.Mathlib.Omega.{arith}
 use lib.Dec.{eqb, ltb}
-use lib.ListN.{length, get_or}
-use borrow.Author.Tests.{eqb-true, eqb-false, eq-eqb, ne_eqb, ltb-true, ltb-false, lt-ltb, le-ltb}
+use lib.ListN.{get_or}
+use borrow.Author.Tests.{eqb-true, eqb-false, eq-eqb, ne_eqb, ltb-true, lt-ltb, le-ltb}
 use Rattle.term.specs.Word.{pick}
 use Rattle.term.proofs.Laws.{never, and_left, and_right, and_both}
 use Rattle.compiler.specs.Told.Tables.{first_at, many_at, is_free, spot_at, head_is, head_word, is_head_word, is_left, is_constraint, same_name, left_same, row_has, kind_from, row_of, strikes, head_kind}

@@ -1,11 +1,10 @@
 -- Numbering the children of rows, as its loops meet it.
 use mathlib.Core.Path.{◌≡◌, refl, sym, ap, ◌∙◌}
-use mathlib.Core.Bool.{Bool, true, false, ◌&&◌}
-use mathlib.Core.List.{List, [], ◌∷◌}
-use Prim.Native.Nat.{ℕ, zero, suc, ◌+◌, ◌-◌, ◌*◌, ◌/◌, ◌%◌, ◌≤◌, ◌<◌}
+use mathlib.Core.List.{List}
+use Prim.Native.Nat.{ℕ, zero, suc, ◌+◌, ◌-◌, ◌≤◌, ◌<◌}
 use native.Mathlib.Omega.{arith}
-use lib.Dec.{eqb, ltb}
-use lib.ListN.{length, get_or, set, take, drop}
+use lib.Dec.{eqb}
+use lib.ListN.{get_or, set, take, drop}
 use borrow.Author.Tests.{lt-ltb, le-ltb, eq-eqb, ne_eqb}
 use Rattle.term.specs.Part.{part_end}
 use Rattle.compiler.specs.Told.Tables.{head_word, spot_at, next_child, children_numbered, spot_numbered, row_numbered, rows_numbered}

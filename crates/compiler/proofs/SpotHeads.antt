@@ -1,6 +1,6 @@
 -- The spot of a rule at a place has the word of its sub-pattern there: so what the tables say of heads is what the rows have.
-use mathlib.Core.Path.{◌≡◌, refl, sym, ap, ap₂, ◌∙◌}
-use mathlib.Core.Bool.{Bool, true, false, ◌&&◌}
+use mathlib.Core.Path.{◌≡◌, refl, sym, ap, ◌∙◌}
+use mathlib.Core.Bool.{Bool, true, false}
 use mathlib.Core.List.{List, [], ◌∷◌}
 use mathlib.Core.Option.{Option, none, some}
 use Prim.Native.Nat.{ℕ, zero, suc, ◌+◌, ◌*◌, ◌-◌, ◌≤◌, ◌<◌}
@@ -17,7 +17,7 @@ use Rattle.tree.specs.Told.Covered.{numbered_as}
 use Rattle.tree.specs.Path.{Uncovered}
 use Rattle.tree.specs.Rows.{sub, below, subs_under, sub_at, head_here, head_at}
 use Rattle.compiler.specs.Told.Stands.{spread, ListAt, LeftAt, BlankAt}
-use borrow.Author.Tests.{eqb-true, eqb-false, eq-eqb, ne_eqb, ltb-true, ltb-false}
+use borrow.Author.Tests.{eqb-true, eq-eqb, ne_eqb, ltb-true, ltb-false}
 use Rattle.compiler.specs.Told.Tables.{first_at, spot_in, spot_at, head_kind, head_is, head_word}
 use Rattle.tree.proofs.Laws.{sub_end, sub_hole, sub_part, sub_root, subs_child, below_end, below_hole, below_part, subs_from, from_hole, from_part, from_start, subs_root, sub_child, head_sub, headed_below}
 use Rattle.compiler.proofs.Sweeps.{first_true, first_false}

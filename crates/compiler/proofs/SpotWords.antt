@@ -1,8 +1,6 @@
 -- The words of an occurrence in a node, read from the tables, are the number of its place and its list.
 use mathlib.Core.Path.{◌≡◌, refl, ap, ap₂, ◌∙◌}
-use mathlib.Core.Bool.{Bool, true, false}
 use mathlib.Core.List.{List, [], ◌∷◌}
-use mathlib.Core.Logic.{inl, inr}
 use Prim.Native.Nat.{ℕ, suc, ◌+◌}
 use native.Mathlib.Omega.{arith}
 use lib.ListN.{length}
@@ -10,7 +8,7 @@ use Rattle.term.specs.Word.{ident_of}
 use Rattle.fit.specs.Constraint.{Occurrence}
 use Rattle.tree.specs.Path.{Uncovered, number_in}
 use Rattle.tree.specs.Told.Covered.{Within}
-use Rattle.compiler.specs.Told.Tables.{listed, ids_from, ids_at, number_at, occurrence_words}
+use Rattle.compiler.specs.Told.Tables.{ids_from, ids_at, number_at, occurrence_words}
 use Rattle.compiler.specs.Told.Stands.{ListAt}
 use Rattle.tree.proofs.Laws.{numbered_within}
 use Rattle.compiler.proofs.SpotOccurrences.{AllIds, SpotIs, spot_count, variable_ident}

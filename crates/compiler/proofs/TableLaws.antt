@@ -1,12 +1,12 @@
 -- What the compiler's tables say, as its loops meet it.
 use mathlib.Core.Path.{◌≡◌, refl, sym, ap, ◌∙◌}
 use mathlib.Core.Bool.{Bool, true, false, ◌&&◌, not}
-use mathlib.Core.List.{List, [], ◌∷◌}
+use mathlib.Core.List.{List}
 use Prim.Native.Nat.{ℕ, zero, suc, ◌+◌, ◌-◌, ◌*◌, ◌/◌, ◌%◌, ◌≤◌, ◌<◌}
 use native.Mathlib.Omega.{arith}
 use lib.Dec.{eqb, ltb}
 use lib.ListN.{length, get_or, set}
-use borrow.Author.Tests.{ltb-true, ltb-false, lt-ltb, le-ltb, eqb-true, eqb-false, eq-eqb, ne_eqb}
+use borrow.Author.Tests.{ltb-true, lt-ltb, le-ltb, eq-eqb, ne_eqb}
 use Rattle.term.specs.Word.{pick, kind_of, count_of, ident_of}
 use Rattle.term.proofs.Laws.{never}
 use Rattle.compiler.proofs.Sweeps.{Searching, search_found, search_nowhere, Sweeping, sweep_here, sweep_set, sweep_skip, sweep_fixed}

@@ -8,7 +8,7 @@ use native.Mathlib.Omega.{arith}
 use lib.Dec.{eqb}
 use lib.ListN.{length, length-append}
 use borrow.Author.Tests.{eqb-true, eq-eqb}
-use Rattle.term.specs.Word.{Head, word, pick, rank}
+use Rattle.term.specs.Word.{Head, word, pick}
 use Rattle.term.specs.Row.{Row, nothing, node, width, words}
 use Rattle.term.specs.Check.{IsTerm}
 use Rattle.term.specs.Renumber.{GoodList, inside, to_body}

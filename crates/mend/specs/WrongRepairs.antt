@@ -10,7 +10,7 @@ use Rattle.text.specs.Bytes.{bytes}
 use Rattle.text.specs.Given.{given_answer, given_left}
 use Rattle.text.specs.BookText.{book_text}
 use Rattle.text.specs.Mail.{Mail, mail_is, bad_mail, mail_said}
-use Rattle.mend.specs.Repair.{stays, new_book, Note, dropped, kept, notes_from, notes_text, was_text, RepairBookOutcome, repair_book_came, repair_book_gives}
+use Rattle.mend.specs.Repair.{new_book, Note, dropped, kept, notes_from, notes_text, was_text, RepairBookOutcome, repair_book_came, repair_book_gives}
 
 -- ---- repairing with another choice of what stays, other lines, or another number beside the one stated
 -- whether each rule stays

@@ -10,7 +10,6 @@ use Rattle.term.specs.Answer.{Answered, answered}
 use Rattle.term.proofs.Laws.{answered_same}
 use Rattle.book.specs.Book.{book_of}
 use Rattle.book.proofs.Laws.{accepted_good, good_accepted, refusal_number, check_book_is}
-use Rattle.text.specs.TermText.{says}
 use Rattle.text.specs.BookText.{book_text, book_said, ReadBookOutcome, read_book_answer, read_book_words}
 use Rattle.text.specs.Mail.{mail_is, mail_said}
 use Rattle.text.proofs.Laws.{filled, read_book_gives_lem, read_good_book, read_book_done}

@@ -13,7 +13,7 @@ use Rattle.term.specs.Part.{same_words, padded}
 use Rattle.book.specs.declared.accept.Accepted.{Accepted}
 use Rattle.book.specs.declared.accept.Accepted.TheVariants.{Sound, Refused}
 use Rattle.book.specs.Accept.{accept}
-use Rattle.book.specs.Marked.{s, book_a, book_b}
+use Rattle.book.specs.Marked.{book_a, book_b}
 use Rattle.fit.specs.Left.{Left, end, hole, part}
 use Rattle.fit.specs.Fit.{Found, body_then, both_found, only_if, found, body_in, all_same, agreed}
 use Rattle.fit.specs.Constraint.{Place, Constraint}

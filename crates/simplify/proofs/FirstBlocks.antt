@@ -2,7 +2,7 @@
 use mathlib.Core.Path.{◌≡◌, refl, sym, ap, ◌∙◌}
 use mathlib.Core.Bool.{Bool, true, false}
 use mathlib.Core.List.{List, ◌++◌}
-use Prim.Native.Nat.{ℕ, ◌+◌, ◌-◌, ◌≤◌, ◌<◌}
+use Prim.Native.Nat.{ℕ, ◌-◌, ◌≤◌, ◌<◌}
 use native.Mathlib.Omega.{arith}
 use lib.ListN.{length, get_or, take, replicate, length-append}
 use lib.Seq.{take_at, length-take-le}
@@ -20,7 +20,7 @@ use Rattle.book.proofs.Laws.{BadWithin, bad_within}
 use Rattle.tree.specs.Layout.{tree_words}
 use Rattle.compiler.specs.Compiled.{has_room, compiled_answer, compile_answer, compile_words, compile_length}
 use Rattle.compiler.proofs.Laws.{TreeMade, done_made, compile_answer_lem}
-use Rattle.text.specs.Refusal.{refused, refusal_block}
+use Rattle.text.specs.Refusal.{refusal_block}
 use Rattle.text.proofs.Laws.{Brief}
 use Rattle.simplify.specs.declared.first.First.{First}
 use Rattle.simplify.specs.Printed.{head_text}

@@ -6,7 +6,6 @@ use native.Mathlib.Omega.{arith}
 use lib.ListN.{length, length-append}
 use Rattle.term.specs.declared.renumber.Passed.{Passed}
 use Rattle.term.specs.declared.renumber.Passed.TheVariants as step
-use Rattle.term.specs.Word
 use Rattle.term.specs.Word.{Head, symbol, abstraction, variable, pattern, rank, word, InTable, kind_of, ident_of}
 use Rattle.term.specs.Row.{Row, nothing, node, width, words, ◌⧺◌}
 use Rattle.term.specs.Renumber.{inside}

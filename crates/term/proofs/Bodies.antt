@@ -11,7 +11,7 @@ use lib.ListN.{length, get_or}
 use borrow.Author.Tests.{leb-true, leb-false, le-leb, lt-leb}
 use Rattle.term.specs.Word.{pick}
 use Rattle.term.specs.Row.{Row, width, words, nesting, ranks, Formed}
-use Rattle.term.specs.Renumber.{position, Listed, GoodList, three, id_term, parameter, id_body, renumber, to_term, closed, to_body, within, id_term_within, ids_within}
+use Rattle.term.specs.Renumber.{position, Listed, GoodList, id_term, parameter, id_body, renumber, to_term, closed, to_body, within, id_term_within, ids_within}
 use Rattle.term.proofs.Words.{never}
 use Rattle.term.proofs.Lists.{position_is, position_at, listed_range, at_most, all_there}
 use Rattle.term.proofs.Renumbers.{implied, both, everywhere, shallow, agree, unmoved, twice, named_true, true_named, every_renumber, IsId, formed_ids, formed_renumber, formed_renumbered, width_renumber, length_renumber, nesting_renumber, ranks_renumber}

@@ -15,7 +15,7 @@ use Rattle.term.specs.declared.image.Image.TheVariants.{Word, None}
 use Rattle.term.specs.declared.same.Met.{Met}
 use Rattle.term.specs.declared.same.Met.TheVariants.{Both, Neither, Apart}
 use Rattle.term.specs.Word.{Head, pick, count, count_of, ident_of, head_of}
-use Rattle.term.specs.Row.{Row, words}
+use Rattle.term.specs.Row.{Row}
 use Rattle.term.specs.Check.{rank_or}
 use Rattle.term.specs.Renumber.{position, good_list, id_body, inside, renumber_head}
 use Rattle.term.specs.Part.{body_of, same_words, same_o, same_body}

@@ -10,7 +10,7 @@ use lib.Seq.{drop-cons}
 use borrow.Author.Tests.{le-leb, lt-leb, eq-eqb, ne_eqb}
 use Rattle.text.specs.declared.number.Number.{Number}
 use Rattle.text.specs.declared.number.Number.TheVariants as numbers
-use Rattle.text.specs.Number.{is_digit, Read, digits, number}
+use Rattle.text.specs.Number.{is_digit, digits, number}
 use Rattle.text.specs.Told.Told.{DigitsTold, NumberTold}
 
 module _ (most : ℕ) (bs : List ℕ) where

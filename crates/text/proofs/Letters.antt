@@ -13,7 +13,6 @@ use Rattle.term.proofs.Laws.{word_symbol, word_abstraction, word_variable, word_
 use Rattle.text.specs.declared.number.Number.TheVariants as numbers
 use Rattle.text.specs.declared.token.Token.{Token}
 use Rattle.text.specs.declared.token.Token.TheVariants as tokens
-use Rattle.text.specs.Number.{Read}
 use Rattle.text.specs.Token.{dotted_read, token}
 use Rattle.text.specs.Told.Told.{NumberTold, DottedTold, VariableTold, TokenTold}
 

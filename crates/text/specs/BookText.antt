@@ -1,5 +1,5 @@
 -- Document 01, "Text and program": a book is the lines `book=1`, `rules=`, and then per rule `rule=`, `vars=`, `left=`, `right=`.
-use Rattle.std.specs.Prelude.{ℕ, zero, suc, ◌+◌, ◌*◌, Bool, true, false, List, [], ◌∷◌, ◌++◌, leb, eqb, length, replicate, get_or}
+use Rattle.std.specs.Prelude.{ℕ, zero, suc, ◌+◌, ◌*◌, List, [], ◌∷◌, ◌++◌, leb, eqb, length, replicate, get_or}
 use Rattle.std.proofs.Math.Option.{Option, none, some}
 use Rattle.term.specs.declared.answer.Answer.{Answer}
 use Rattle.term.specs.declared.answer.Answer.TheVariants.{BadText, Short}

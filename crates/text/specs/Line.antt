@@ -1,6 +1,6 @@
 -- Document 01, "Text and program": a line of tokens that part by one blank and end in byte 10.
-use Rattle.std.specs.Prelude.{ℕ, zero, suc, Bool, true, false, List, [], ◌∷◌, ◌++◌, eqb}
-use Rattle.std.proofs.Math.Option.{Option, none, some}
+use Rattle.std.specs.Prelude.{ℕ, zero, suc, List, [], ◌∷◌, ◌++◌, eqb}
+use Rattle.std.proofs.Math.Option.{none, some}
 use Rattle.term.specs.Word.{Head, word, pick}
 use Rattle.text.specs.Bytes.{byte}
 use Rattle.text.specs.Number.{Read}

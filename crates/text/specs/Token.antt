@@ -1,5 +1,5 @@
 -- Document 01, "Words": the token of each row of the table.
-use Rattle.std.specs.Prelude.{ℕ, Bool, true, false, List, [], ◌∷◌, ◌++◌, leb, eqb}
+use Rattle.std.specs.Prelude.{ℕ, List, [], ◌∷◌, ◌++◌, leb, eqb}
 use Rattle.std.proofs.Math.Option.{Option, none, some}
 use Rattle.term.specs.Word.{Head, symbol, abstraction, variable, pattern, pick, head_of}
 use Rattle.text.specs.Bytes.{byte}

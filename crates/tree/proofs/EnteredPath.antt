@@ -73,7 +73,7 @@ child_numbered p (suc more) i zero h = let z : i + 0 ≡ i = omega arith in rw (
 child_numbered p (suc more) i (suc j) h =
     let z : i + suc j ≡ suc i + j = omega arith in
     let later : numbered_as ((i + suc j) ∷ p) (children_from p (suc i) more) ≡ suc j =
-        ap (λ (x : ℕ). numbered_as (x ∷ p) (children_from p (suc i) more)) z ∙ child_numbered p more (suc i) j (omega arith) in
+    ap (λ (x : ℕ). numbered_as (x ∷ p) (children_from p (suc i) more)) z ∙ child_numbered p more (suc i) j (omega arith) in
     rw (different (i ∷ p) ((i + suc j) ∷ p) (λ e. omega (arith, (child_number i (i + suc j) p p e).0)), later)
 
 child_unnumbered : (p q : Place) (more i : ℕ) → ((j : ℕ) → q ≡ j ∷ p → ⊥) → numbered_as q (children_from p i more) ≡ 0

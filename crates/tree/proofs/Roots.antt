@@ -26,7 +26,6 @@ use Rattle.fit.specs.Lowest.{Fitting, or_next}
 use Rattle.fit.proofs.Laws.{GoodRule, accepted_good, Each, each_join, first_each, Names, EachNames, constraints_name, good_part, wide_end, wide_hole, wide_part, shape_end, shape_hole, shape_part, under_root, at_child, tree_first, head_node, occurrences_end, occurrences_part}
 use Rattle.fit.proofs.Laws.{front_symbol, aside_node, front_formed, width_front, matching_front_lem, root_arguments_lem, Through, through_argument, tree_front, under_front, tree_at_front, shape_front, through_each, SymbolRoot, accepted_root, uncovered_none, CoveredAs, covered_as}
 use Rattle.tree.specs.Told.Covered.{Waiting, Covered}
-use Rattle.tree.specs.Tree.{Switch}
 use Rattle.tree.specs.Path.{place_numbered, children_from, marked, enter, root, start}
 use Rattle.tree.specs.Rows.{RuleRow, sub, below, subs_under, head_here, constraints_left}
 use Rattle.tree.specs.Compile.{entering, compile, row_then, book_rows}

@@ -14,7 +14,6 @@ use Rattle.term.proofs.Laws.{never}
 use Rattle.book.specs.declared.book.Sides.{Sides}
 use Rattle.book.specs.declared.book.Found.TheVariants as found
 use Rattle.book.specs.Rule.{counted}
-use Rattle.book.specs.Book.{Rule}
 use Rattle.book.specs.Told.Found.{sides_at}
 use Rattle.book.proofs.Laws.{sides_rule, sides_none}
 use Rattle.tree.specs.Tree.{LeafVariable}

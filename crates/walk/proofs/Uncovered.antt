@@ -10,7 +10,7 @@ use Rattle.term.specs.Word.{Head}
 use Rattle.term.specs.Row.{Row, nothing, node, width}
 use Rattle.term.specs.Renumber.{good_list, to_body}
 use Rattle.term.specs.Told.Walk.{Stands}
-use Rattle.term.specs.Part.{part, body_of, is_some, has_body, same_o, same_body}
+use Rattle.term.specs.Part.{body_of, is_some, has_body, same_o, same_body}
 use Rattle.term.proofs.Laws.{never, width_nothing, width_node, part_stands, body_stands, stands_short, good_true, is_some_lem, is_none, same_by_words, same_bodies}
 use Rattle.fit.specs.Constraint.{body_here}
 use Rattle.fit.proofs.Laws.{body_node}

@@ -1,5 +1,5 @@
 -- What loading a book leaves in the compiler's tables: the rules at their spots, the root's number in every row, and a mark for each row that no rule is.
-use Rattle.std.specs.Prelude.{ℕ, ◌+◌, ◌-◌, ◌*◌, ◌%◌, ◌≤◌, ◌<◌, ◌≡◌, Bool, true, false, List, eqb, ltb, length, get_or, drop}
+use Rattle.std.specs.Prelude.{ℕ, ◌+◌, ◌-◌, ◌*◌, ◌%◌, ◌<◌, ◌≡◌, Bool, false, List, eqb, ltb, length, get_or, drop}
 use Rattle.std.proofs.Math.Option.{Option, none, some}
 use Rattle.term.specs.Word.{pick, kind_of}
 use Rattle.term.specs.Part.{part_end}

@@ -2,7 +2,6 @@
 use borrow.Author.Rules.{rules}
 use native.Mathlib.Omega.{arith}
 use mathlib.Core.Path.{sym, ◌∙◌}
-use lib.ListN.{length}
 use lib.Seq.{length-take-le}
 use Rattle.simplify.proofs.print_file.Statement.{statement}
 use Rattle.simplify.proofs.print_file.Tie as tie

@@ -1,7 +1,6 @@
 -- `accept::accept_book` meets its contract: the words are a book or have a first bad rule, and the answer says which.
 use borrow.Author.Rules.{rules}
 use mathlib.Core.Path.{sym, ◌∙◌}
-use Rattle.book.specs.Accept.{accept}
 use Rattle.book.proofs.Accepting.{good_accepted, bad_refused}
 use Rattle.book.proofs.accept.accept_book.Statement.{statement}
 use Rattle.book.proofs.accept.accept_book.Tie as tie

@@ -1,12 +1,10 @@
 -- `book::check_book` meets its contract: what is left to judge gives the answer, at every turn.
 use borrow.Author.Rules.{rules}
-use borrow.Author.Tests.{not-true, not-false, eqb-true, eqb-false, eq-eqb, ne_eqb}
+use borrow.Author.Tests.{not-true, not-false}
 use native.Mathlib.Omega.{arith}
-use mathlib.Core.Path.{◌≡◌, refl, sym, ap, ◌∙◌}
-use mathlib.Core.Bool.{Bool, true, false, ◌&&◌}
-use mathlib.Core.List.{List}
-use Prim.Native.Nat.{ℕ, suc, ◌+◌, ◌-◌, ◌≤◌, ◌<◌}
-use lib.ListN.{length, drop, get_or}
+use mathlib.Core.Path.{◌≡◌, sym, ◌∙◌}
+use Prim.Native.Nat.{◌-◌}
+use lib.ListN.{drop, get_or}
 use Rattle.book.specs.Book.{judge, check_book}
 use Rattle.book.proofs.Places.{rule_placed, book_empty, book_many, book_start, book_no_rule, book_bad_rule, book_next, book_left_over, book_good}
 use Rattle.book.proofs.book.check_book.Statement.{statement}

@@ -1,12 +1,8 @@
 -- `book::find_rule` meets its contract: what is left to seek gives the answer, at every turn.
 use borrow.Author.Rules.{rules}
-use borrow.Author.Tests.{not-true, not-false, eqb-true, eqb-false, eq-eqb, ne_eqb}
 use native.Mathlib.Omega.{arith}
-use mathlib.Core.Path.{◌≡◌, refl, sym, ap, ◌∙◌}
-use mathlib.Core.Bool.{Bool, true, false, ◌&&◌}
-use mathlib.Core.List.{List}
-use Prim.Native.Nat.{ℕ, suc, ◌+◌, ◌-◌, ◌≤◌, ◌<◌}
-use lib.ListN.{length, drop, get_or}
+use mathlib.Core.Path.{◌≡◌, sym, ◌∙◌}
+use lib.ListN.{drop}
 use Rattle.book.specs.Told.Found.{seek, sides_at}
 use Rattle.book.proofs.Places.{rule_placed, find_empty, find_beyond, find_start, find_none, find_next, find_done}
 use Rattle.book.proofs.book.find_rule.Statement.{statement}

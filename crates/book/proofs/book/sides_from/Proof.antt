@@ -1,12 +1,6 @@
 -- `book::sides_from` meets its contract: one law for each way.
-use borrow.Author.Rules.{rules}
-use borrow.Author.Tests.{not-true, not-false, eqb-true, eqb-false, eq-eqb, ne_eqb}
 use native.Mathlib.Omega.{arith}
-use mathlib.Core.Path.{◌≡◌, refl, sym, ap, ◌∙◌}
-use mathlib.Core.Bool.{Bool, true, false, ◌&&◌}
-use mathlib.Core.List.{List}
-use Prim.Native.Nat.{ℕ, suc, ◌+◌, ◌-◌, ◌≤◌, ◌<◌}
-use lib.ListN.{length, drop, get_or}
+use Prim.Native.Nat.{◌+◌}
 use Rattle.book.proofs.Places.{place_short, place_over, place_found}
 use Rattle.book.proofs.book.sides_from.Statement.{statement}
 use Rattle.book.proofs.book.sides_from.Tie as tie

@@ -1,7 +1,7 @@
 -- `book::sound_rule` meets its contract: the sides lie where they were found, and what is asked of them is what is asked of the rule.
 use borrow.Author.Rules.{rules}
 use native.Mathlib.Omega.{arith}
-use mathlib.Core.Path.{◌≡◌, sym, ◌∙◌}
+use mathlib.Core.Path.{sym, ◌∙◌}
 use Rattle.book.proofs.Places.{Placed, rule_placed, unsound, sound_so}
 use Rattle.book.proofs.book.sound_rule.Statement.{statement}
 use Rattle.book.proofs.book.sound_rule.Tie as tie

@@ -1,10 +1,8 @@
 -- `ids::ids_of` meets its contract: what is left of the words gives the ids.
 use borrow.Author.Rules.{rules}
 use native.Mathlib.Omega.{arith}
-use mathlib.Core.Path.{◌≡◌, refl, sym, ◌∙◌}
-use Prim.Native.Nat.{ℕ, ◌-◌, ◌≤◌}
-use mathlib.Core.List.{[], ◌∷◌}
-use lib.ListN.{length}
+use mathlib.Core.Path.{sym, ◌∙◌}
+use Prim.Native.Nat.{◌-◌, ◌≤◌}
 use Rattle.book.proofs.IdLoop.{Sofar, no_list, ids_start, ids_ended, ids_short, ids_other, ids_more, ids_many}
 use Rattle.book.proofs.ids.ids_of.Statement.{statement}
 use Rattle.book.proofs.ids.ids_of.Tie as tie

@@ -1,6 +1,5 @@
 -- `ids::no_ids` meets its contract.
-use borrow.Author.Rules.{rules}
-use mathlib.Core.Path.{◌≡◌, refl}
+use mathlib.Core.Path.{refl}
 use Rattle.book.specs.Told.Ids.{four_of}
 use Rattle.book.proofs.ids.no_ids.Statement.{statement}
 use Rattle.book.proofs.ids.no_ids.Tie as tie

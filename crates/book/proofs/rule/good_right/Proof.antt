@@ -1,12 +1,6 @@
 -- `rule::good_right` meets its contract: one law for each way.
 use borrow.Author.Rules.{rules}
-use borrow.Author.Tests.{not-true, not-false, eqb-true, eqb-false, eq-eqb, ne_eqb}
-use native.Mathlib.Omega.{arith}
-use mathlib.Core.Path.{◌≡◌, refl, sym, ap, ◌∙◌}
-use mathlib.Core.Bool.{Bool, true, false, ◌&&◌}
-use mathlib.Core.List.{List}
-use Prim.Native.Nat.{ℕ, suc, ◌+◌, ◌-◌, ◌≤◌, ◌<◌}
-use lib.ListN.{length, drop, get_or}
+use borrow.Author.Tests.{not-true, not-false}
 use Rattle.book.proofs.Sides.{right_bad, right_counts}
 use Rattle.book.proofs.rule.good_right.Statement.{statement}
 use Rattle.book.proofs.rule.good_right.Tie as tie

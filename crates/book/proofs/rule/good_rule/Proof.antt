@@ -1,12 +1,7 @@
 -- `rule::good_rule` meets its contract: one law for each way.
 use borrow.Author.Rules.{rules}
-use borrow.Author.Tests.{not-true, not-false, eqb-true, eqb-false, eq-eqb, ne_eqb}
-use native.Mathlib.Omega.{arith}
-use mathlib.Core.Path.{◌≡◌, refl, sym, ap, ◌∙◌}
-use mathlib.Core.Bool.{Bool, true, false, ◌&&◌}
-use mathlib.Core.List.{List}
-use Prim.Native.Nat.{ℕ, suc, ◌+◌, ◌-◌, ◌≤◌, ◌<◌}
-use lib.ListN.{length, drop, get_or}
+use borrow.Author.Tests.{not-true, not-false}
+use mathlib.Core.Path.{sym, ◌∙◌}
 use Rattle.book.proofs.Sides.{rule_vars, rule_left, rule_right}
 use Rattle.book.proofs.rule.good_rule.Statement.{statement}
 use Rattle.book.proofs.rule.good_rule.Tie as tie

@@ -1,12 +1,6 @@
 -- `rule::good_side` meets its contract: the walk tells the shape of the tree that the check found.
 use borrow.Author.Rules.{rules}
-use borrow.Author.Tests.{not-true, not-false, eqb-true, eqb-false, eq-eqb, ne_eqb}
-use native.Mathlib.Omega.{arith}
-use mathlib.Core.Path.{◌≡◌, refl, sym, ap, ◌∙◌}
-use mathlib.Core.Bool.{Bool, true, false, ◌&&◌}
-use mathlib.Core.List.{List}
-use Prim.Native.Nat.{ℕ, suc, ◌+◌, ◌-◌, ◌≤◌, ◌<◌}
-use lib.ListN.{length, drop, get_or}
+use mathlib.Core.Path.{sym, ◌∙◌}
 use Rattle.book.proofs.Sides.{side_no_tree, side_good, side_unshaped}
 use Rattle.book.proofs.rule.good_side.Statement.{statement}
 use Rattle.book.proofs.rule.good_side.Tie as tie

@@ -1,12 +1,12 @@
 -- `shape::side_row` meets its contract. The levels fall; the loop's invariant is that what is told of the trees left tells of the whole row.
 use borrow.Author.Rules.{rules}
 use native.Mathlib.Omega.{arith}
-use mathlib.Core.Path.{◌≡◌, sym, ◌∙◌}
-use Prim.Native.Nat.{ℕ, ◌<◌, ◌≤◌, ◌+◌, ◌-◌}
-use lib.ListN.{length, get_or, drop}
+use mathlib.Core.Path.{sym, ◌∙◌}
+use Prim.Native.Nat.{ℕ, ◌<◌, ◌+◌}
+use lib.ListN.{get_or, drop}
 use Rattle.term.specs.declared.renumber.Passed.{Passed}
 use Rattle.term.proofs.Laws.{suffix, inside_small}
-use Rattle.book.specs.Told.Shape.{front_of, SideTold}
+use Rattle.book.specs.Told.Shape.{SideTold}
 use Rattle.book.proofs.SideLaws.{side_none, side_deep, side_ended, side_stuck, side_more, tree_past, tree_bad, tree_inside, past_small}
 use borrow.Fn.Kinds.{In}
 use borrow.Fn.PlainCycle.{Measures, is, falls, and}

@@ -1,7 +1,6 @@
 -- `shape::front_of` meets its contract: the side picks the case.
 use borrow.Author.Rules.{rules}
-use mathlib.Core.Path.{◌≡◌, ◌∙◌}
-use Rattle.book.specs.Told.Shape.{front_of}
+use mathlib.Core.Path.{◌∙◌}
 use Rattle.book.proofs.shape.front_of.Statement.{statement}
 use Rattle.book.proofs.shape.front_of.Tie as tie
 

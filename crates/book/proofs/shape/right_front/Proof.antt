@@ -1,7 +1,6 @@
 -- `shape::right_front` meets its contract.
 use borrow.Author.Rules.{rules}
-use native.Mathlib.Omega.{arith}
-use mathlib.Core.Path.{◌≡◌, sym, ap, ◌∙◌}
+use mathlib.Core.Path.{sym, ◌∙◌}
 use borrow.Author.Tests.{eq-eqb, ne_eqb, le-leb, lt-leb}
 use Rattle.term.specs.Word.{kind_of}
 use Rattle.book.specs.Told.Shape.{front_of}

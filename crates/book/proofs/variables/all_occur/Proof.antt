@@ -2,9 +2,6 @@
 use borrow.Author.Rules.{rules}
 use native.Mathlib.Omega.{arith}
 use mathlib.Core.Path.{◌≡◌, refl, sym, ◌∙◌}
-use borrow.Author.Tests.{not-true, not-false, eq-eqb, ne_eqb, le-leb, lt-leb}
-use Prim.Native.Nat.{ℕ, ◌+◌, ◌-◌, ◌≤◌}
-use lib.ListN.{length, drop}
 use Rattle.book.specs.Rule.{all_occur}
 use Rattle.book.proofs.Counts.{occur_absent, occur_next, occur_all}
 use Rattle.book.proofs.variables.all_occur.Statement.{statement}

@@ -1,7 +1,6 @@
 -- `variables::is_below` meets its contract.
 use borrow.Author.Rules.{rules}
-use native.Mathlib.Omega.{arith}
-use mathlib.Core.Path.{◌≡◌, sym, ap, ◌∙◌}
+use mathlib.Core.Path.{sym, ◌∙◌}
 use borrow.Author.Tests.{eq-eqb, ne_eqb}
 use Rattle.term.specs.Word.{kind_of}
 use Rattle.book.proofs.variables.is_below.Statement.{statement}

@@ -1,9 +1,7 @@
 -- `constraints::among` meets its contract: what is left of the list gives the answer.
 use borrow.Author.Rules.{rules}
 use native.Mathlib.Omega.{arith}
-use mathlib.Core.Path.{◌≡◌, refl, sym, ap, ◌∙◌}
-use Prim.Native.Nat.{ℕ, ◌+◌, ◌*◌, ◌-◌, ◌≤◌}
-use lib.ListN.{length, get_or}
+use Prim.Native.Nat.{◌-◌}
 use Rattle.compiler.specs.Told.Tables.{size_at, not_in}
 use Rattle.compiler.proofs.Sweeps.{Searching, search_start, search_next}
 use Rattle.compiler.proofs.TableLaws.{not_in_yes, not_in_no, among_yes, among_no}

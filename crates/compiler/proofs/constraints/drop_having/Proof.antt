@@ -1,9 +1,7 @@
 -- `constraints::drop_having` meets its contract: the rows passed are changed, and the constraints are as they came.
-use borrow.Author.Rules.{rules}
 use native.Mathlib.Omega.{arith}
-use mathlib.Core.Path.{◌≡◌, refl, sym, ap, ◌∙◌}
-use Prim.Native.Nat.{ℕ, ◌+◌, ◌*◌, ◌-◌, ◌≤◌}
-use lib.ListN.{length, get_or, length-set}
+use mathlib.Core.Path.{◌∙◌}
+use Prim.Native.Nat.{◌-◌, ◌≤◌}
 use Rattle.compiler.specs.Told.Tables.{row_has, struck_rows}
 use Rattle.compiler.proofs.Sweeps.{Sweeping, sweep_start, sweep_set, sweep_here, sweep_end}
 use Rattle.compiler.proofs.TableLaws.{past_rows, having_same}

@@ -1,7 +1,5 @@
 -- `constraints::first_constraint` meets its contract: closedness comes before equality.
-use borrow.Author.Rules.{rules}
 use native.Mathlib.Omega.{arith}
-use mathlib.Core.Path.{◌≡◌, refl, sym, ap, ◌∙◌}
 use Rattle.compiler.proofs.TableLaws.{constraint_first, constraint_later}
 use Rattle.compiler.proofs.constraints.first_constraint.Statement.{statement}
 use Rattle.compiler.proofs.constraints.first_constraint.Tie as tie

@@ -1,9 +1,7 @@
 -- `constraints::first_from` meets its contract: what is left of the rule's spots gives the answer.
-use borrow.Author.Rules.{rules}
 use native.Mathlib.Omega.{arith}
-use mathlib.Core.Path.{◌≡◌, refl, sym, ap, ◌∙◌}
-use Prim.Native.Nat.{ℕ, ◌+◌, ◌*◌, ◌-◌, ◌≤◌}
-use lib.ListN.{length, get_or}
+use mathlib.Core.Path.{sym, ◌∙◌}
+use Prim.Native.Nat.{◌-◌}
 use Rattle.compiler.proofs.Sweeps.{Searching, search_start, search_next, search_found, search_nowhere}
 use Rattle.compiler.proofs.TableLaws.{left_at, from_is, from_none}
 use Rattle.compiler.proofs.constraints.first_from.Statement.{statement}

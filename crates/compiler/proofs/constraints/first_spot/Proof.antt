@@ -1,9 +1,8 @@
 -- `constraints::first_spot` meets its contract: what is left of the spots before gives the answer.
 use borrow.Author.Rules.{rules}
 use native.Mathlib.Omega.{arith}
-use mathlib.Core.Path.{◌≡◌, refl, sym, ap, ◌∙◌}
-use Prim.Native.Nat.{ℕ, ◌+◌, ◌*◌, ◌-◌, ◌/◌, ◌%◌, ◌≤◌}
-use lib.ListN.{length, get_or}
+use mathlib.Core.Path.{◌≡◌, sym, ◌∙◌}
+use Prim.Native.Nat.{◌+◌, ◌*◌, ◌-◌, ◌/◌, ◌%◌}
 use Rattle.compiler.proofs.Sweeps.{Searching, search_start, search_next, search_found, search_nowhere}
 use Rattle.compiler.proofs.TableLaws.{variable_of, first_spot_is}
 use Rattle.compiler.proofs.constraints.first_spot.Statement.{statement}

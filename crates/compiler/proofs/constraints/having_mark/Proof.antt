@@ -1,7 +1,7 @@
 -- `constraints::having_mark` meets its contract: its tests are the definition's.
 use borrow.Author.Rules.{rules}
 use native.Mathlib.Omega.{arith}
-use mathlib.Core.Path.{◌≡◌, refl, sym, ap, ◌∙◌}
+use mathlib.Core.Path.{sym, ◌∙◌}
 use Rattle.compiler.specs.Told.Tables.{row_has}
 use Rattle.compiler.proofs.TableLaws.{struck_stays, struck_now, struck_not}
 use Rattle.compiler.proofs.constraints.having_mark.Statement.{statement}

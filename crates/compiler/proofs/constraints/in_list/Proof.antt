@@ -1,9 +1,7 @@
 -- `constraints::in_list` meets its contract: what is left of the list gives the answer.
 use borrow.Author.Rules.{rules}
 use native.Mathlib.Omega.{arith}
-use mathlib.Core.Path.{◌≡◌, refl, sym, ap, ◌∙◌}
-use Prim.Native.Nat.{ℕ, ◌+◌, ◌*◌, ◌-◌, ◌≤◌}
-use lib.ListN.{length, get_or}
+use Prim.Native.Nat.{◌-◌}
 use borrow.Author.Tests.{eq-eqb, ne_eqb}
 use Rattle.compiler.specs.Told.Tables.{size_at}
 use Rattle.compiler.proofs.Sweeps.{Searching, search_start, search_next}

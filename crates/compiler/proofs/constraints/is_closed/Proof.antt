@@ -1,7 +1,6 @@
 -- `constraints::is_closed` meets its contract: its tests are the definition's.
 use borrow.Author.Rules.{rules}
-use native.Mathlib.Omega.{arith}
-use mathlib.Core.Path.{◌≡◌, refl, sym, ap, ◌∙◌}
+use mathlib.Core.Path.{sym, ◌∙◌}
 use Rattle.compiler.proofs.TableLaws.{closed_no_lem, closed_is}
 use Rattle.compiler.proofs.constraints.is_closed.Statement.{statement}
 use Rattle.compiler.proofs.constraints.is_closed.Tie as tie

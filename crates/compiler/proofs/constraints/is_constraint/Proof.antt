@@ -1,7 +1,6 @@
 -- `constraints::is_constraint` meets its contract: its test is the definition's.
 use borrow.Author.Rules.{rules}
 use native.Mathlib.Omega.{arith}
-use mathlib.Core.Path.{◌≡◌, refl, sym, ap, ◌∙◌}
 use Rattle.compiler.proofs.TableLaws.{constraint_closed, constraint_same}
 use Rattle.compiler.proofs.constraints.is_constraint.Statement.{statement}
 use Rattle.compiler.proofs.constraints.is_constraint.Tie as tie

@@ -1,7 +1,5 @@
 -- `constraints::is_left` meets its contract: its tests are the definition's.
 use borrow.Author.Rules.{rules}
-use native.Mathlib.Omega.{arith}
-use mathlib.Core.Path.{◌≡◌, refl, sym, ap, ◌∙◌}
 use Rattle.compiler.proofs.TableLaws.{left_struck, left_free}
 use Rattle.compiler.proofs.constraints.is_left.Statement.{statement}
 use Rattle.compiler.proofs.constraints.is_left.Tie as tie

@@ -1,7 +1,6 @@
 -- `constraints::is_same` meets its contract: its tests are the definition's.
 use borrow.Author.Rules.{rules}
-use native.Mathlib.Omega.{arith}
-use mathlib.Core.Path.{◌≡◌, refl, sym, ap, ◌∙◌}
+use mathlib.Core.Path.{sym, ◌∙◌}
 use Rattle.compiler.proofs.TableLaws.{same_no_lem, same_is}
 use Rattle.compiler.proofs.constraints.is_same.Statement.{statement}
 use Rattle.compiler.proofs.constraints.is_same.Tie as tie

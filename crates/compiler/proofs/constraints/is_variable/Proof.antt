@@ -1,7 +1,6 @@
 -- `constraints::is_variable` meets its contract: its tests are the definition's.
 use borrow.Author.Rules.{rules}
-use native.Mathlib.Omega.{arith}
-use mathlib.Core.Path.{◌≡◌, refl, sym, ap, ◌∙◌}
+use mathlib.Core.Path.{sym, ◌∙◌}
 use Rattle.compiler.proofs.TableLaws.{variable_no, variable_is}
 use Rattle.compiler.proofs.constraints.is_variable.Statement.{statement}
 use Rattle.compiler.proofs.constraints.is_variable.Tie as tie

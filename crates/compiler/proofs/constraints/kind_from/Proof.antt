@@ -1,7 +1,4 @@
 -- `constraints::kind_from` meets its contract: its test is the definition's.
-use borrow.Author.Rules.{rules}
-use native.Mathlib.Omega.{arith}
-use mathlib.Core.Path.{◌≡◌, refl, sym, ap, ◌∙◌}
 use Rattle.compiler.proofs.TableLaws.{kind_closed, kind_same}
 use Rattle.compiler.proofs.constraints.kind_from.Statement.{statement}
 use Rattle.compiler.proofs.constraints.kind_from.Tie as tie

@@ -1,7 +1,5 @@
 -- `constraints::left_same` meets its contract: its test is the definition's.
-use borrow.Author.Rules.{rules}
 use native.Mathlib.Omega.{arith}
-use mathlib.Core.Path.{◌≡◌, refl, sym, ap, ◌∙◌}
 use Rattle.compiler.proofs.TableLaws.{left_some, left_none, kind_within}
 use Rattle.compiler.proofs.constraints.left_same.Statement.{statement}
 use Rattle.compiler.proofs.constraints.left_same.Tie as tie

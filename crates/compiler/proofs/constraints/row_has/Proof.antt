@@ -1,9 +1,8 @@
 -- `constraints::row_has` meets its contract: what is left of the row's spots gives the answer.
 use borrow.Author.Rules.{rules}
 use native.Mathlib.Omega.{arith}
-use mathlib.Core.Path.{◌≡◌, refl, sym, ap, ◌∙◌}
-use Prim.Native.Nat.{ℕ, ◌+◌, ◌*◌, ◌-◌, ◌≤◌}
-use lib.ListN.{length, get_or}
+use mathlib.Core.Path.{sym, ap, ◌∙◌}
+use Prim.Native.Nat.{ℕ, ◌+◌, ◌*◌, ◌-◌}
 use Rattle.compiler.specs.Told.Tables.{left_same}
 use Rattle.compiler.proofs.Sweeps.{Searching, search_start, search_next}
 use Rattle.compiler.proofs.TableLaws.{has_at, row_has_lem, row_has_not, kind_within}

@@ -1,7 +1,5 @@
 -- `constraints::same_closed` meets its contract: its tests are the definition's.
 use borrow.Author.Rules.{rules}
-use native.Mathlib.Omega.{arith}
-use mathlib.Core.Path.{◌≡◌, refl, sym, ap, ◌∙◌}
 use Rattle.compiler.proofs.TableLaws.{closed_places, closed_some, closed_none}
 use Rattle.compiler.proofs.constraints.same_closed.Statement.{statement}
 use Rattle.compiler.proofs.constraints.same_closed.Tie as tie

@@ -1,9 +1,8 @@
 -- `constraints::same_list` meets its contract: what is left of the lists gives the answer.
 use borrow.Author.Rules.{rules}
 use native.Mathlib.Omega.{arith}
-use mathlib.Core.Path.{◌≡◌, refl, sym, ap, ◌∙◌}
-use Prim.Native.Nat.{ℕ, ◌+◌, ◌*◌, ◌-◌, ◌≤◌}
-use lib.ListN.{length, get_or}
+use mathlib.Core.Path.{sym, ◌∙◌}
+use Prim.Native.Nat.{◌-◌}
 use Rattle.compiler.specs.Told.Tables.{size_at, differ_at}
 use Rattle.compiler.proofs.Sweeps.{Searching, search_start, search_next}
 use Rattle.compiler.proofs.TableLaws.{list_sizes, list_differs, list_same, differ_yes, differ_no}

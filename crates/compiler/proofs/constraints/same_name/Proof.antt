@@ -1,7 +1,5 @@
 -- `constraints::same_name` meets its contract: its test is the definition's.
-use borrow.Author.Rules.{rules}
 use native.Mathlib.Omega.{arith}
-use mathlib.Core.Path.{◌≡◌, refl, sym, ap, ◌∙◌}
 use Rattle.compiler.proofs.TableLaws.{name_closed, name_same, kind_closed, kind_same}
 use Rattle.compiler.proofs.constraints.same_name.Statement.{statement}
 use Rattle.compiler.proofs.constraints.same_name.Tie as tie

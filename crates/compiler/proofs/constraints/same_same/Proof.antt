@@ -1,7 +1,6 @@
 -- `constraints::same_same` meets its contract: its tests are the definition's.
 use borrow.Author.Rules.{rules}
 use native.Mathlib.Omega.{arith}
-use mathlib.Core.Path.{◌≡◌, refl, sym, ap, ◌∙◌}
 use Rattle.compiler.proofs.TableLaws.{first_spot_within, same_firsts, same_places, same_lists, same_others}
 use Rattle.compiler.proofs.constraints.same_same.Statement.{statement}
 use Rattle.compiler.proofs.constraints.same_same.Tie as tie

@@ -1,9 +1,6 @@
 -- `heads::count_heads` meets its contract: the heads so far and the rows left give the answer.
-use borrow.Author.Rules.{rules}
 use native.Mathlib.Omega.{arith}
-use mathlib.Core.Path.{◌≡◌, refl, sym, ap, ◌∙◌}
-use Prim.Native.Nat.{ℕ, ◌+◌, ◌*◌, ◌-◌, ◌≤◌}
-use lib.ListN.{length, get_or}
+use Prim.Native.Nat.{◌-◌}
 use Rattle.compiler.proofs.Sweeps.{Counting, count_start, count_yes, count_no, counted_all}
 use Rattle.compiler.proofs.TableLaws.{new_here, new_none, new_some, heads_are}
 use Rattle.compiler.proofs.heads.count_heads.Statement.{statement}

@@ -1,7 +1,6 @@
 -- `heads::has_head` meets its contract: its tests are the definition's.
 use borrow.Author.Rules.{rules}
 use native.Mathlib.Omega.{arith}
-use mathlib.Core.Path.{◌≡◌, refl, sym, ap, ◌∙◌}
 use Rattle.compiler.proofs.TableLaws.{has_struck, has_free}
 use Rattle.compiler.proofs.heads.has_head.Statement.{statement}
 use Rattle.compiler.proofs.heads.has_head.Tie as tie

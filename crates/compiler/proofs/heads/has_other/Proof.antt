@@ -1,9 +1,6 @@
 -- `heads::has_other` meets its contract: its tests are the definition's.
 use borrow.Author.Rules.{rules}
-use native.Mathlib.Omega.{arith}
-use mathlib.Core.Path.{◌≡◌, refl, sym, ap, ◌∙◌}
-use lib.Dec.{eqb}
-use mathlib.Core.Bool.{false, true}
+use mathlib.Core.Path.{ap, ◌∙◌}
 use Rattle.compiler.proofs.TableLaws.{other_none, other_rest}
 use Rattle.compiler.specs.Told.Tables.{is_other}
 use Rattle.compiler.proofs.heads.has_other.Statement.{statement}

@@ -1,8 +1,7 @@
 -- `heads::head_at` meets its contract: its tests are the definition's.
 use borrow.Author.Rules.{rules}
 use native.Mathlib.Omega.{arith}
-use mathlib.Core.Path.{◌≡◌, refl, sym, ap, ◌∙◌}
-use mathlib.Core.List.{List}
+use mathlib.Core.Path.{sym, ◌∙◌}
 use Rattle.compiler.proofs.TableLaws.{spot_within, head_none, head_some, head_other}
 use Rattle.compiler.proofs.heads.head_at.Statement.{statement}
 use Rattle.compiler.proofs.heads.head_at.Tie as tie

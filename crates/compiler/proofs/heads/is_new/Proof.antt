@@ -1,10 +1,7 @@
 -- `heads::is_new` meets its contract: what is left of the rows before gives the answer.
-use borrow.Author.Rules.{rules}
 use native.Mathlib.Omega.{arith}
-use mathlib.Core.Path.{◌≡◌, refl, sym, ap, ◌∙◌}
-use Prim.Native.Nat.{ℕ, ◌+◌, ◌*◌, ◌-◌, ◌≤◌}
-use lib.ListN.{length, get_or}
-use borrow.Author.Tests.{eq-eqb, ne_eqb}
+use mathlib.Core.Path.{sym, ◌∙◌}
+use Prim.Native.Nat.{◌-◌}
 use Rattle.compiler.specs.Told.Tables.{has_head}
 use Rattle.compiler.proofs.Sweeps.{Searching, search_start, search_next}
 use Rattle.compiler.proofs.TableLaws.{found_before, found_nowhere}

@@ -1,7 +1,5 @@
 -- `heads::lower` meets its contract: its tests are the definition's.
 use borrow.Author.Rules.{rules}
-use native.Mathlib.Omega.{arith}
-use mathlib.Core.Path.{◌≡◌, refl, sym, ap, ◌∙◌}
 use Rattle.compiler.proofs.TableLaws.{lower_zero, lower_entered, lower_first, lower_best, lower_new}
 use Rattle.compiler.proofs.heads.lower.Statement.{statement}
 use Rattle.compiler.proofs.heads.lower.Tie as tie

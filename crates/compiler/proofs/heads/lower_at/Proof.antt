@@ -1,7 +1,6 @@
 -- `heads::lower_at` meets its contract: its test is the definition's.
 use borrow.Author.Rules.{rules}
-use native.Mathlib.Omega.{arith}
-use mathlib.Core.Path.{◌≡◌, refl, sym, ap, ◌∙◌}
+use mathlib.Core.Path.{sym, ◌∙◌}
 use Rattle.compiler.proofs.TableLaws.{lowest_head, lowest_other}
 use Rattle.compiler.proofs.heads.lower_at.Statement.{statement}
 use Rattle.compiler.proofs.heads.lower_at.Tie as tie

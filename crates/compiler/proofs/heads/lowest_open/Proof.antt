@@ -1,9 +1,7 @@
 -- `heads::lowest_open` meets its contract: the lowest so far and the spots left give the answer.
-use borrow.Author.Rules.{rules}
 use native.Mathlib.Omega.{arith}
-use mathlib.Core.Path.{◌≡◌, refl, sym, ap, ◌∙◌}
-use Prim.Native.Nat.{ℕ, ◌+◌, ◌*◌, ◌-◌, ◌≤◌}
-use lib.ListN.{length, get_or}
+use mathlib.Core.Path.{◌≡◌}
+use Prim.Native.Nat.{◌+◌, ◌*◌, ◌-◌, ◌≤◌}
 use Rattle.compiler.specs.Told.Tables.{lowest_from}
 use Rattle.compiler.proofs.TableLaws.{lowest_next, lowest_end}
 use Rattle.compiler.proofs.heads.lowest_open.Statement.{statement}

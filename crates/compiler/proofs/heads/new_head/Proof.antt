@@ -1,7 +1,7 @@
 -- `heads::new_head` meets its contract: its tests are the definition's.
 use borrow.Author.Rules.{rules}
 use native.Mathlib.Omega.{arith}
-use mathlib.Core.Path.{◌≡◌, refl, sym, ap, ◌∙◌}
+use mathlib.Core.Path.{sym, ◌∙◌}
 use Rattle.compiler.proofs.TableLaws.{new_struck, new_first_lem, new_seen}
 use Rattle.compiler.proofs.heads.new_head.Statement.{statement}
 use Rattle.compiler.proofs.heads.new_head.Tie as tie

@@ -1,9 +1,6 @@
 -- `heads::spot_at` meets its contract: what is left of the rule's spots gives the answer.
-use borrow.Author.Rules.{rules}
 use native.Mathlib.Omega.{arith}
-use mathlib.Core.Path.{◌≡◌, refl, sym, ap, ◌∙◌}
-use Prim.Native.Nat.{ℕ, ◌+◌, ◌*◌, ◌-◌, ◌≤◌}
-use lib.ListN.{length, get_or}
+use Prim.Native.Nat.{◌-◌}
 use borrow.Author.Tests.{eq-eqb, ne_eqb}
 use Rattle.compiler.proofs.Sweeps.{Searching, search_start, search_next, search_found, search_nowhere}
 use Rattle.compiler.proofs.TableLaws.{at_place, spot_is, spot_none}

@@ -2,10 +2,9 @@
 -- cites the law of its way through a node.
 use borrow.Author.Rules.{rules}
 use native.Mathlib.Omega.{arith}
-use mathlib.Core.Path.{◌≡◌, refl, sym, ap, ◌∙◌}
-use mathlib.Core.List.{List}
+use mathlib.Core.Path.{refl, ap, ◌∙◌}
 use Prim.Native.Nat.{ℕ, ◌<◌, ◌+◌, ◌*◌, ◌-◌}
-use lib.ListN.{length, get_or, set, length-set}
+use lib.ListN.{length, length-set}
 use Rattle.compiler.specs.Told.NodeTold.{left_in_rows}
 use Rattle.compiler.proofs.Readies.{heads_most, place_small, test_id, case_places}
 use Rattle.compiler.proofs.TestRuns.{slot_most, yes_needs, yes_over, next_most, no_needs, no_over, test_done}

@@ -1,7 +1,6 @@
 -- `numbers::next_child` meets its contract: its test is the definition's.
 use borrow.Author.Rules.{rules}
 use native.Mathlib.Omega.{arith}
-use mathlib.Core.Path.{◌≡◌, refl, sym, ap, ◌∙◌}
 use Rattle.compiler.proofs.NumberLaws.{next_over, next_in}
 use Rattle.compiler.proofs.numbers.next_child.Statement.{statement}
 use Rattle.compiler.proofs.numbers.next_child.Tie as tie

@@ -1,8 +1,8 @@
 -- `numbers::number_children` meets its contract: the children left to number give the answer.
 use borrow.Author.Rules.{rules}
 use native.Mathlib.Omega.{arith}
-use mathlib.Core.Path.{◌≡◌, refl, sym, ap, ◌∙◌}
-use Prim.Native.Nat.{ℕ, ◌+◌, ◌*◌, ◌-◌, ◌/◌, ◌≤◌}
+use mathlib.Core.Path.{◌≡◌, sym, ◌∙◌}
+use Prim.Native.Nat.{◌+◌, ◌*◌, ◌-◌, ◌/◌, ◌≤◌}
 use lib.ListN.{length, get_or, length-set}
 use Rattle.term.specs.Word.{count_of}
 use Rattle.compiler.specs.Told.Tables.{children_numbered, spot_numbered}

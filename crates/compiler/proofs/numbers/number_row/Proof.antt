@@ -1,7 +1,6 @@
 -- `numbers::number_row` meets its contract: its tests are the definition's.
 use borrow.Author.Rules.{rules}
 use native.Mathlib.Omega.{arith}
-use mathlib.Core.Path.{◌≡◌, refl, sym, ap, ◌∙◌}
 use Rattle.compiler.proofs.NumberLaws.{row_struck, row_unheaded, row_numbered_lem, headed_spot}
 use Rattle.compiler.proofs.TableLaws.{spot_within}
 use Rattle.compiler.proofs.numbers.number_row.Statement.{statement}

@@ -1,9 +1,8 @@
 -- `numbers::number_rows` meets its contract: the rows left to number give the answer.
-use borrow.Author.Rules.{rules}
 use native.Mathlib.Omega.{arith}
-use mathlib.Core.Path.{◌≡◌, refl, sym, ap, ◌∙◌}
-use Prim.Native.Nat.{ℕ, ◌+◌, ◌*◌, ◌-◌, ◌≤◌}
-use lib.ListN.{length, get_or}
+use mathlib.Core.Path.{◌≡◌, refl, sym, ◌∙◌}
+use Prim.Native.Nat.{◌-◌, ◌≤◌}
+use lib.ListN.{length}
 use Rattle.compiler.specs.Told.Tables.{rows_numbered}
 use Rattle.compiler.proofs.NumberLaws.{rows_next, rows_end}
 use Rattle.compiler.proofs.numbers.number_rows.Statement.{statement}

@@ -1,8 +1,6 @@
 -- `table::first_row` meets its contract: what is left of the rows gives the answer.
 use native.Mathlib.Omega.{arith}
-use mathlib.Core.Path.{◌≡◌, refl, sym, ap, ◌∙◌}
-use Prim.Native.Nat.{ℕ, ◌-◌, ◌≤◌}
-use lib.ListN.{length, get_or}
+use Prim.Native.Nat.{◌-◌}
 use borrow.Author.Tests.{eq-eqb, ne_eqb}
 use Rattle.compiler.specs.Told.Tables.{is_free}
 use Rattle.compiler.proofs.Sweeps.{Searching, search_start, search_next, search_found, search_nowhere}

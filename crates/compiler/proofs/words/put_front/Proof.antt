@@ -1,10 +1,9 @@
 -- `words::put_front` meets its contract: the words are set one after the other.
 use borrow.Author.Rules.{rules}
 use native.Mathlib.Omega.{arith}
-use mathlib.Core.Path.{◌≡◌, refl, sym, ap, ◌∙◌}
+use mathlib.Core.Path.{◌∙◌}
 use Rattle.compiler.proofs.TableLaws.{first_spot_within}
-use Prim.Native.Nat.{ℕ, ◌+◌, ◌*◌, ◌-◌, ◌≤◌}
-use lib.ListN.{set}
+use Prim.Native.Nat.{◌-◌}
 use Rattle.compiler.proofs.WordLaws.{front_closed, front_same}
 use Rattle.compiler.proofs.words.put_front.Statement.{statement}
 use Rattle.compiler.proofs.words.put_front.Tie as tie

@@ -1,7 +1,7 @@
 -- `words::put_occurrence` meets its contract: the words are set one after the other.
 use borrow.Author.Rules.{rules}
 use native.Mathlib.Omega.{arith}
-use mathlib.Core.Path.{◌≡◌, refl, sym, ap, ◌∙◌}
+use mathlib.Core.Path.{◌∙◌}
 use Rattle.compiler.proofs.WordLaws.{occurrence_put}
 use Rattle.compiler.proofs.words.put_occurrence.Statement.{statement}
 use Rattle.compiler.proofs.words.put_occurrence.Tie as tie

@@ -1,8 +1,7 @@
 -- `words::put_variables` meets its contract: the variables left to write give the answer.
-use borrow.Author.Rules.{rules}
 use native.Mathlib.Omega.{arith}
-use mathlib.Core.Path.{◌≡◌, refl, sym, ap, ◌∙◌}
-use Prim.Native.Nat.{ℕ, ◌+◌, ◌*◌, ◌-◌, ◌≤◌}
+use mathlib.Core.Path.{◌≡◌, refl, ◌∙◌}
+use Prim.Native.Nat.{◌+◌, ◌-◌}
 use lib.ListN.{length, get_or}
 use Rattle.compiler.proofs.WordLaws.{Leafing, leaf_start, leaf_next, leaf_end, variable_within}
 use Rattle.compiler.proofs.words.put_variables.Statement.{statement}

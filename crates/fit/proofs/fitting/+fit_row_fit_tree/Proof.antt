@@ -4,7 +4,7 @@ use borrow.Author.Rules.{rules}
 use native.Mathlib.Omega.{arith}
 use mathlib.Core.Path.{◌≡◌, refl, sym, ◌∙◌}
 use mathlib.Core.List.{List}
-use Prim.Native.Nat.{ℕ, ◌<◌, ◌+◌, ◌-◌, ◌*◌}
+use Prim.Native.Nat.{ℕ, ◌<◌, ◌+◌, ◌*◌}
 use lib.ListN.{length, get_or}
 use Rattle.term.proofs.Laws.{inside_small}
 use Rattle.fit.specs.declared.fitting.Both.{Both}

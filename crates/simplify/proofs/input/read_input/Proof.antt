@@ -1,7 +1,7 @@
 -- `input::read_input` meets its contract: the lines of the book, and then those of the terms, tell what the file says.
 use borrow.Author.Rules.{rules}
 use native.Mathlib.Omega.{arith}
-use mathlib.Core.Path.{◌≡◌, sym}
+use mathlib.Core.Path.{sym}
 use Prim.Native.Nat.{◌≤◌}
 use lib.ListN.{length}
 use lib.Seq.{length-take-le}

@@ -1,10 +1,10 @@
 -- `image::renumber_row` meets its contract. The levels fall; the loop's invariant is that what is told of the trees left tells of the whole row.
 use borrow.Author.Rules.{rules}
 use native.Mathlib.Omega.{arith}
-use mathlib.Core.Path.{◌≡◌, refl, sym, ap, ◌∙◌}
+use mathlib.Core.Path.{◌≡◌, refl, sym, ◌∙◌}
 use mathlib.Core.List.{List}
-use Prim.Native.Nat.{ℕ, ◌<◌, ◌≤◌, ◌+◌, ◌-◌}
-use lib.ListN.{length, get_or, length-set}
+use Prim.Native.Nat.{ℕ, ◌<◌}
+use lib.ListN.{length, get_or}
 use Rattle.term.specs.declared.renumber.Passed.{Passed}
 use Rattle.term.specs.Told.Walk.{image, RowTold}
 use Rattle.term.proofs.Images.{inside_small}

@@ -1,7 +1,7 @@
 -- `image::body_id` meets its contract: the tests pick the case of the id.
 use borrow.Author.Rules.{rules}
 use native.Mathlib.Omega.{arith}
-use mathlib.Core.Path.{◌≡◌, sym, ◌∙◌}
+use mathlib.Core.Path.{sym, ◌∙◌}
 use Prim.Native.Nat.{◌-◌, ◌≤◌}
 use Rattle.term.proofs.Lists.{position_le}
 use Rattle.term.proofs.Images.{body_id_own, body_id_none, body_id_inner, body_id_outside}

@@ -1,6 +1,6 @@
 -- `image::renumber_id` meets its contract: the way picks the renumbering.
 use borrow.Author.Rules.{rules}
-use mathlib.Core.Path.{◌≡◌, ◌∙◌}
+use mathlib.Core.Path.{◌∙◌}
 use Rattle.term.specs.Told.Walk.{image}
 use Rattle.term.proofs.image.renumber_id.Statement.{statement}
 use Rattle.term.proofs.image.renumber_id.Tie as tie

@@ -1,7 +1,7 @@
 -- `image::renumber_word` meets its contract: the rank picks the case of the word.
 use borrow.Author.Rules.{rules}
 use native.Mathlib.Omega.{arith}
-use mathlib.Core.Path.{◌≡◌, sym, ap, ◌∙◌}
+use mathlib.Core.Path.{sym, ap, ◌∙◌}
 use Rattle.term.specs.Told.Walk.{image}
 use Rattle.term.proofs.Words.{word_head}
 use Rattle.term.proofs.Images.{image_none, image_other, image_variable, image_no_id, image_small}

@@ -1,7 +1,7 @@
 -- `image::term_id` meets its contract: the tests pick the case of the id.
 use borrow.Author.Rules.{rules}
 use native.Mathlib.Omega.{arith}
-use mathlib.Core.Path.{◌≡◌, ◌∙◌}
+use mathlib.Core.Path.{◌∙◌}
 use Prim.Native.Nat.{◌-◌}
 use Rattle.term.proofs.Images.{term_id_own, term_id_inner, term_id_outside}
 use Rattle.term.proofs.image.term_id.Statement.{statement}

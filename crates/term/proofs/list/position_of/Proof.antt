@@ -1,7 +1,6 @@
 -- `list::position_of` meets its contract: what is left of the list gives the answer, at every turn.
-use borrow.Author.Rules.{rules}
 use native.Mathlib.Omega.{arith}
-use Prim.Native.Nat.{ℕ, ◌-◌, ◌≤◌}
+use Prim.Native.Nat.{◌-◌, ◌≤◌}
 use lib.ListN.{length}
 use Rattle.term.proofs.Lists.{Sought, sought_first, sought_next, found_here, found_nowhere}
 use Rattle.term.proofs.list.position_of.Statement.{statement}

@@ -2,7 +2,7 @@
 use borrow.Author.Rules.{rules}
 use borrow.Author.Tests.{not-true, not-false}
 use native.Mathlib.Omega.{arith}
-use mathlib.Core.Path.{◌≡◌, sym, ◌∙◌}
+use mathlib.Core.Path.{sym, ◌∙◌}
 use Rattle.term.specs.Told.Walk.{image}
 use Rattle.term.proofs.Lists.{good_true}
 use Rattle.term.proofs.Answers.{no_list, told_body, told_long, told_none, is_some_lem, is_none}

@@ -1,8 +1,5 @@
 -- `part::write_below` meets its contract: the walk from a body to a term tells what it stands for.
 use borrow.Author.Rules.{rules}
-use native.Mathlib.Omega.{arith}
-use mathlib.Core.Path.{◌≡◌, sym, ◌∙◌}
-use lib.ListN.{length}
 use Rattle.term.proofs.Answers.{cleared}
 use Rattle.term.proofs.Imaged.{below_done, below_stuck}
 use Rattle.term.proofs.part.write_below.Statement.{statement}

@@ -1,7 +1,7 @@
 -- `renumber::inside_word` meets its contract.
 use borrow.Author.Rules.{rules}
 use borrow.Author.Tests.{eq-eqb, ne_eqb}
-use mathlib.Core.Path.{◌≡◌, sym, ◌∙◌}
+use mathlib.Core.Path.{sym, ◌∙◌}
 use Rattle.term.specs.Told.Walk.{inside_word}
 use Rattle.term.proofs.renumber.inside_word.Statement.{statement}
 use Rattle.term.proofs.renumber.inside_word.Tie as tie

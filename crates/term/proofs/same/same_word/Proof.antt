@@ -1,6 +1,5 @@
 -- `same::same_word` meets its contract: the images pick the case.
 use borrow.Author.Rules.{rules}
-use mathlib.Core.Path.{◌≡◌, sym, ◌∙◌}
 use Rattle.term.specs.Told.Walk.{image, same_image}
 use Rattle.term.proofs.same.same_word.Statement.{statement}
 use Rattle.term.proofs.same.same_word.Tie as tie

@@ -1,6 +1,6 @@
 -- `book_text::read_book` meets its contract: the slice is cleared, and the work area has 8,385 words.
 use borrow.Author.Rules.{rules}
-use mathlib.Core.Path.{◌≡◌, refl, sym, ap, ◌∙◌}
+use mathlib.Core.Path.{refl, sym, ap, ◌∙◌}
 use Prim.Native.Nat.{ℕ}
 use lib.ListN.{replicate}
 use Rattle.text.proofs.book_text.read_book.Statement.{statement}

@@ -1,7 +1,6 @@
 -- `book_text::read_lines` meets its contract: each line tells what the book is from there on.
 use borrow.Author.Rules.{rules}
 use native.Mathlib.Omega.{arith}
-use mathlib.Core.Path.{◌≡◌}
 use Rattle.text.specs.declared.key.Key.TheVariants as keys
 use Rattle.text.specs.declared.number.Number.TheVariants as numbers
 use Rattle.text.specs.declared.rule_text.Rules.TheVariants as rules

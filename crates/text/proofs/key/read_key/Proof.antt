@@ -1,8 +1,7 @@
 -- `key::read_key` meets its contract: what is left of the key tells whether it stands there, at every turn.
-use borrow.Author.Rules.{rules}
 use native.Mathlib.Omega.{arith}
-use mathlib.Core.Path.{◌≡◌, refl}
-use Prim.Native.Nat.{ℕ, ◌-◌, ◌≤◌}
+use mathlib.Core.Path.{refl}
+use Prim.Native.Nat.{◌-◌, ◌≤◌}
 use lib.ListN.{length}
 use Rattle.text.proofs.KeySteps.{Rest, key_ends, key_runs_out, key_differs, key_next}
 use Rattle.text.proofs.key.read_key.Statement.{statement}

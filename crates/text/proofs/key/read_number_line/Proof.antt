@@ -1,6 +1,5 @@
 -- `key::read_number_line` meets its contract: the key, the number and the end of the line stand there one after the other, or one does not.
 use borrow.Author.Rules.{rules}
-use native.Mathlib.Omega.{arith}
 use Rattle.text.proofs.KeySteps.{no_key, no_number, number_last, number_more, number_there}
 use Rattle.text.proofs.key.read_number_line.Statement.{statement}
 use Rattle.text.proofs.key.read_number_line.Tie as tie

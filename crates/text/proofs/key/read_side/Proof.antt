@@ -1,6 +1,5 @@
 -- `key::read_side` meets its contract: the key stands there and then the line of tokens, or one does not.
 use borrow.Author.Rules.{rules}
-use native.Mathlib.Omega.{arith}
 use Rattle.text.proofs.KeySteps.{no_side, side_there}
 use Rattle.text.proofs.key.read_side.Statement.{statement}
 use Rattle.text.proofs.key.read_side.Tie as tie

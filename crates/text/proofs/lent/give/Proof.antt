@@ -1,7 +1,5 @@
 -- `lent::give` meets its contract: words that were accepted are put into the cleared slice where there is room.
 use borrow.Author.Rules.{rules}
-use native.Mathlib.Omega.{arith}
-use mathlib.Core.Path.{◌≡◌, sym, ◌∙◌}
 use lib.ListN.{length}
 use Rattle.text.proofs.Givens.{given_short, given_done, given_bad}
 use Rattle.text.proofs.lent.give.Statement.{statement}

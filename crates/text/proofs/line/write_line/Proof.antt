@@ -1,7 +1,6 @@
 -- `line::write_line` meets its contract: the first token, and then the rest of the line.
 use borrow.Author.Rules.{rules}
 use native.Mathlib.Omega.{arith}
-use Prim.Native.Nat.{ℕ}
 use mathlib.Core.Path.{◌≡◌}
 use lib.ListN.{length, get_or, drop, length-drop}
 use Rattle.term.proofs.Laws.{suffix}

@@ -1,7 +1,5 @@
 -- `mail::read_any_rule` meets its contract: the first two lines tell what the last two are to be.
 use borrow.Author.Rules.{rules}
-use native.Mathlib.Omega.{arith}
-use mathlib.Core.Path.{◌≡◌}
 use Rattle.text.specs.declared.rule_text.Vars.TheVariants as vars
 use Rattle.text.specs.Mail.{any_rule_read}
 use Rattle.text.specs.Told.BookTold.{VarsTold}

@@ -1,7 +1,6 @@
 -- `number::write_number` meets its contract: the digits of a tenth, then the last digit. The number falls.
 use borrow.Author.Rules.{rules}
 use native.Mathlib.Omega.{arith}
-use mathlib.Core.Path.{◌≡◌, refl, sym, ◌∙◌}
 use Prim.Native.Nat.{ℕ, ◌/◌, ◌<◌}
 use borrow.Fn.Kinds.{In}
 use borrow.Fn.PlainCycle.{Measures, is, falls, and}

@@ -1,7 +1,7 @@
 -- `rule_text::put_header` meets its contract: three words are put one after the other.
 use borrow.Author.Rules.{rules}
 use native.Mathlib.Omega.{arith}
-use mathlib.Core.Path.{◌≡◌, ap, ◌∙◌}
+use mathlib.Core.Path.{ap, ◌∙◌}
 use mathlib.Core.List.{List}
 use Prim.Native.Nat.{ℕ, ◌+◌}
 use lib.ListN.{set}

@@ -1,7 +1,6 @@
 -- `rule_text::read_rule` meets its contract: the first two lines tell what the last two are to be.
 use borrow.Author.Rules.{rules}
 use native.Mathlib.Omega.{arith}
-use mathlib.Core.Path.{◌≡◌}
 use Rattle.text.specs.declared.rule_text.Vars.TheVariants as vars
 use Rattle.text.specs.BookText.{rule_read}
 use Rattle.text.specs.Told.BookTold.{VarsTold}

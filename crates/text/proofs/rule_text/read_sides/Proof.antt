@@ -1,7 +1,6 @@
 -- `rule_text::read_sides` meets its contract: the sides are read behind the place of the header, which is put once their lengths are known.
 use borrow.Author.Rules.{rules}
 use native.Mathlib.Omega.{arith}
-use mathlib.Core.Path.{◌≡◌}
 use Prim.Native.Nat.{◌+◌}
 use Rattle.text.specs.declared.line.Line.TheVariants as lines
 use Rattle.text.specs.BookText.{left_key, right_key}

@@ -1,7 +1,6 @@
 -- `rule_text::read_vars` meets its contract: each line tells what is left to read.
 use borrow.Author.Rules.{rules}
 use native.Mathlib.Omega.{arith}
-use mathlib.Core.Path.{◌≡◌}
 use Rattle.text.specs.declared.number.Number.TheVariants as numbers
 use Rattle.text.specs.BookText.{rule_key}
 use Rattle.text.specs.Told.BookTold.{NumberLineTold}

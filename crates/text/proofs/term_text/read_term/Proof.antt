@@ -1,6 +1,6 @@
 -- `term_text::read_term` meets its contract: the slice is cleared, and the work area has 4,096 words.
 use borrow.Author.Rules.{rules}
-use mathlib.Core.Path.{◌≡◌, refl, sym, ap, ◌∙◌}
+use mathlib.Core.Path.{refl, sym, ap, ◌∙◌}
 use Prim.Native.Nat.{ℕ}
 use lib.ListN.{replicate}
 use Rattle.text.proofs.term_text.read_term.Statement.{statement}

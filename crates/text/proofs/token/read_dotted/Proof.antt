@@ -1,7 +1,6 @@
 -- `token::read_dotted` meets its contract: each test tells whether the next piece stands there.
 use borrow.Author.Rules.{rules}
 use native.Mathlib.Omega.{arith}
-use mathlib.Core.Path.{◌≡◌, sym, ◌∙◌}
 use Prim.Native.Nat.{◌+◌}
 use Rattle.text.specs.declared.number.Number.TheVariants as numbers
 use Rattle.text.specs.Told.Told.{NumberTold}

@@ -1,6 +1,5 @@
 -- `token::read_token` meets its contract: the letter tells the row of the table.
 use borrow.Author.Rules.{rules}
-use native.Mathlib.Omega.{arith}
 use Rattle.text.proofs.Letters.{no_letter, symbol_there, abstraction_there, letter_v, pattern_there, other_letter}
 use Rattle.text.proofs.token.read_token.Statement.{statement}
 use Rattle.text.proofs.token.read_token.Tie as tie

@@ -1,7 +1,6 @@
 -- `token::read_variable` meets its contract: a variable's id is a number from 1 on.
 use borrow.Author.Rules.{rules}
 use native.Mathlib.Omega.{arith}
-use mathlib.Core.Path.{◌≡◌, sym, ◌∙◌}
 use Rattle.text.specs.declared.number.Number.TheVariants as numbers
 use Rattle.text.specs.Told.Told.{NumberTold}
 use Rattle.text.proofs.Letters.{no_variable, id_zero, variable_there}

@@ -1,7 +1,6 @@
 -- `token::write_token` meets its contract: the kind tells the letter and what follows it.
 use borrow.Author.Rules.{rules}
-use native.Mathlib.Omega.{arith}
-use mathlib.Core.Path.{◌≡◌, sym, ◌∙◌}
+use mathlib.Core.Path.{sym, ◌∙◌}
 use Prim.Native.Nat.{◌/◌, ◌%◌}
 use Rattle.term.specs.Word.{ident_of}
 use Rattle.text.specs.Number.{decimal}

@@ -1,9 +1,6 @@
 -- `under::Within::inside` meets its contract: an abstraction of the body is one more around, and every word one level.
-use borrow.Author.Rules.{rules}
 use native.Mathlib.Omega.{arith}
-use mathlib.Core.Path.{refl, sym, ap}
-use Rattle.term.specs.Told.Walk.{inside_word}
-use Rattle.steps.specs.declared.under.Within.{Within}
+use mathlib.Core.Path.{refl}
 use Rattle.steps.proofs.under.Within.inside.Statement.{statement}
 use Rattle.steps.proofs.under.Within.inside.Tie as tie
 
