@@ -4,7 +4,7 @@
 # How long `make soak` goes on, in seconds; 0 is for ever.
 SECONDS ?= 600
 
-sources := crates.txt $(shell find crates -name '*.rt' -o -name '*.antt')
+sources := crates.txt $(shell find crates -name out -prune -o \( -name '*.rt' -o -name '*.antt' \) -print)
 
 # Standard output has the result alone.
 run: target/bin/simplify

@@ -2,7 +2,7 @@
  * Rosenduch: simplifying the scripts of museum audio guides by a book of rewrite rules.
  *
  * A term, a book and a compiled tree are lists of 32-bit words, and texts are bytes, all as document 01 lays them out. Link with libcapi.a,
- * which `rt staticlib capi` writes; it needs memcpy and memset of the C library alone and keeps no state, so calls from several threads do
+ * which `tools/build capi` makes; it needs memcpy and memset of the C library alone and keeps no state, so calls from several threads do
  * not meet.
  *
  * Every function answers with a number of document 01 and writes the place that goes with it through `at`:

@@ -45,13 +45,26 @@ pub fn read_all(input: &mut impl Read, text: &mut [u8]) -> Came
     Came::Bytes(n)
 }
 
+// Writes all of the bytes, or stops at the first write that fails or takes nothing.
+fn write_whole(out: &mut impl Write, bytes: &[u8]) -> io::Result<()> {
+    let mut done: usize = 0;
+    while done < bytes.len() {
+        let more = out.write(&bytes[done..])?;
+        if more == 0 {
+            return Err(io::Error::from(io::ErrorKind::WriteZero));
+        }
+        done = done + more;
+    }
+    Ok(())
+}
+
 // Writes a line: what failed, as the caller names it, a colon and the system's words for why. Where that fails too, nobody is left to tell.
 fn say_failed(said: &mut impl Write, name: &[u8], error: io::Error) {
     let reason = Reason::of(error);
-    let _whole = said.write_all(name).is_ok()
-        && said.write_all(b": ").is_ok()
-        && said.write_all(reason.words()).is_ok()
-        && said.write_all(b"\n").is_ok();
+    let _named = write_whole(said, name).is_ok();
+    let _parted = write_whole(said, b": ").is_ok();
+    let _told = write_whole(said, reason.words()).is_ok();
+    let _ended = write_whole(said, b"\n").is_ok();
 }
 
 // Says of the input with this name why a read failed.
@@ -61,7 +74,7 @@ pub fn read_failed(said: &mut impl Write, input: &[u8], error: io::Error) {
 
 // Prints a block, or says of the output with this name why it cannot.
 pub fn print(out: &mut impl Write, said: &mut impl Write, block: &[u8], output: &[u8]) -> bool {
-    match out.write_all(block) {
+    match write_whole(out, block) {
         Ok(()) => true,
         Err(error) => {
             say_failed(said, output, error);
@@ -76,7 +89,7 @@ pub fn has_arguments(env: &impl Env, said: &mut impl Write, usage: &[u8]) -> boo
     match env.arg(1, &mut first) {
         Err(FillError::NotPresent) => false,
         _ => {
-            let _whole = said.write_all(usage).is_ok();
+            let _said = write_whole(said, usage).is_ok();
             true
         }
     }
