@@ -1,6 +1,7 @@
 // Standard input and output, and what is said on standard error where they fail: in the words that a program lends, since they name it.
-ghost use Rattle.std.specs.Prelude.{length};
-ghost use Rattle.streams.specs.Told.Told.{Within};
+ghost use Rattle.std.specs.Prelude.{length, IsTrue, IsFalse, OnOk};
+ghost use Rattle.std.specs.Io.KnownBytes.{Appends, Keeps};
+ghost use Rattle.streams.specs.Told.Told.{Within, CameIn, SomeCame};
 
 use crate::reason::Reason;
 use std::env::{Env, FillError};
@@ -15,8 +16,9 @@ pub enum Came {
 }
 
 // One read into the lent bytes: none at the end of the input.
-fn read_some(input: &mut impl Read, text: &mut [u8]) -> Came
-    ensures { Within (length text.old) result }
+fn read_some<R: Read>(input: &mut R, text: &mut [u8]) -> Came
+    ensures within { Within (length text.old) result }
+    ensures bytes { SomeCame (R.remaining input.old) (R.remaining input.new) text.new result }
 {
     match input.read(text) {
         Ok(n) => Came::Bytes(n),
@@ -25,8 +27,9 @@ fn read_some(input: &mut impl Read, text: &mut [u8]) -> Came
 }
 
 // Reads to the end of the input, or until the lent bytes are full.
-pub fn read_all(input: &mut impl Read, text: &mut [u8]) -> Came
-    ensures { Within (length text.old) result }
+pub fn read_all<R: Read>(input: &mut R, text: &mut [u8]) -> Came
+    ensures within { Within (length text.old) result }
+    ensures bytes { CameIn (R.remaining input.old) (R.remaining input.new) text.new result }
 {
     let mut n: usize = 0;
     while n < text.len() {
@@ -46,7 +49,9 @@ pub fn read_all(input: &mut impl Read, text: &mut [u8]) -> Came
 }
 
 // Writes all of the bytes, or stops at the first write that fails or takes nothing.
-fn write_whole(out: &mut impl Write, bytes: &[u8]) -> io::Result<()> {
+fn write_whole<W: Write>(out: &mut W, bytes: &[u8]) -> io::Result<()>
+    ensures { OnOk result (Appends (W.contents out.old) (W.contents out.new) bytes.now) }
+{
     let mut done: usize = 0;
     while done < bytes.len() {
         let more = out.write(&bytes[done..])?;
@@ -73,7 +78,10 @@ pub fn read_failed(said: &mut impl Write, input: &[u8], error: io::Error) {
 }
 
 // Prints a block, or says of the output with this name why it cannot.
-pub fn print(out: &mut impl Write, said: &mut impl Write, block: &[u8], output: &[u8]) -> bool {
+pub fn print<W: Write, S: Write>(out: &mut W, said: &mut S, block: &[u8], output: &[u8]) -> bool
+    ensures whole { IsTrue result → Appends (W.contents out.old) (W.contents out.new) block.now }
+    ensures silent { IsTrue result → Keeps (S.contents said.old) (S.contents said.new) }
+{
     match write_whole(out, block) {
         Ok(()) => true,
         Err(error) => {
@@ -84,7 +92,9 @@ pub fn print(out: &mut impl Write, said: &mut impl Write, block: &[u8], output: 
 }
 
 // Whether there were arguments, which no program takes: the line of its usage is then said.
-pub fn has_arguments(env: &impl Env, said: &mut impl Write, usage: &[u8]) -> bool {
+pub fn has_arguments<S: Write>(env: &impl Env, said: &mut S, usage: &[u8]) -> bool
+    ensures { IsFalse result → Keeps (S.contents said.old) (S.contents said.new) }
+{
     let mut first = [0u8; 1];
     match env.arg(1, &mut first) {
         Err(FillError::NotPresent) => false,

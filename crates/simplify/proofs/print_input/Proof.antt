@@ -11,7 +11,7 @@ use Rattle.simplify.proofs.print_input.Statement.{statement}
 use Rattle.simplify.proofs.print_input.Tie as tie
 
 told : (c : tie.In-Bytes) → Within (length c.before.before.before.before.before.before.before.before.before.before.before.args.text.now) (came.Bytes c.in-Bytes.n)
-told c = rw c.in-Bytes.is at c.before.before.before.read_all.ensures
+told c = rw c.in-Bytes.is at c.before.before.before.read_all.ensures.0
 
 stand : (c : tie.In-Bytes) → c.in-Bytes.n ≤ length c.before.before.before.read_all.new.text
 stand c = omega (arith, told c, c.before.before.before.read_all.auto.text)
