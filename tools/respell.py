@@ -3,7 +3,7 @@
 
 usage: python3 tools/respell.py [CHECKOUT]
 
-Run once, after /opt/rattle/port/port.py. tools/names.txt has a line 'OLD NEW' for each name. A name that a lemma shared
+Run once, after the kit's port.py. tools/names.txt has a line 'OLD NEW' for each name. A name that a lemma shared
 with a definition ends in _lem; as the field of a record, as a step of a proof or in a path such a name has no _lem.
 Comments and strings stay, but for names in backquotes. The folder specs/told of a crate becomes specs/Told.
 """
@@ -15,7 +15,7 @@ import sys
 
 HERE = os.path.dirname(os.path.realpath(__file__))
 TOKEN = re.compile(r"[^\s(){}\[\],;.\"`]+")
-# The names that are both a field and a lemma: indented, before ':' or '=', they are the field.
+# The names that are both a field and a lemma: before ' : ' or ' = ' they are taken for the field.
 FIELDS = {
     "one-step", "only-refuses", "hands-back", "invents-count", "drops-row", "passes-earlier-row", "check-book",
     "new-first", "head-is", "row_has", "only_none", "same_body",
