@@ -9,7 +9,7 @@ use lib.Dec.{leb, ltb}
 use lib.ListN.{length, take, drop, length-append, length-drop, take-append-drop}
 use lib.Seq.{take_at, drop_at, drop-drop, length-take-le}
 use borrow.Author.Tests.{leb-true, le-leb}
-use Rattle.term.specs.declared.check.Checked.TheVariants.{Good, Bad}
+use Rattle.std.specs.Prelude.{Ok, Err}
 use Rattle.term.specs.Word.{pick}
 use Rattle.book.specs.Book.{Rule, rule_of, judged, good_next, after_next, judge, check_book}
 
@@ -56,11 +56,11 @@ pub rule_words_lem : (ws : List ℕ) (rule : Rule) (rest : List ℕ) → rule_of
 rule_words_lem ws rule rest e = rw e at (rule_are ws)
 
 -- ---- judging, rule after rule
-pub judge_end : (number : ℕ) → judge number zero [] ≡ Good
+pub judge_end : (number : ℕ) → judge number zero [] ≡ Ok tt
 unfolding judge
 judge_end number = refl
 
-pub judge_over : (number w : ℕ) (ws : List ℕ) → judge number zero (w ∷ ws) ≡ Bad number
+pub judge_over : (number w : ℕ) (ws : List ℕ) → judge number zero (w ∷ ws) ≡ Err number
 unfolding judge
 judge_over number w ws = refl
 
@@ -69,10 +69,10 @@ pub judge_next : (number more : ℕ) (ws : List ℕ)
 unfolding judge
 judge_next number more ws = refl
 
-pub check_empty : check_book [] ≡ Bad 0
+pub check_empty : check_book [] ≡ Err 0
 unfolding check_book
 check_empty = refl
 
-pub check_counted : (n : ℕ) (ws : List ℕ) → check_book (n ∷ ws) ≡ pick (ltb 64 n) (Bad 64) (judge 0 n ws)
+pub check_counted : (n : ℕ) (ws : List ℕ) → check_book (n ∷ ws) ≡ pick (ltb 64 n) (Err 64) (judge 0 n ws)
 unfolding check_book
 check_counted n ws = refl

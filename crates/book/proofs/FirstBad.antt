@@ -6,17 +6,16 @@ use Prim.Native.Nat.{ℕ, zero, suc, ◌+◌, ◌≤◌}
 use native.Mathlib.Omega.{arith}
 use lib.Dec.{ltb}
 use borrow.Author.Tests.{ltb-false}
-use Rattle.term.specs.declared.check.Checked.{Checked}
-use Rattle.term.specs.declared.check.Checked.TheVariants.{Good, Bad}
+use Rattle.std.specs.Prelude.{Result, Ok, Err}
 use Rattle.term.specs.Word.{pick}
 use Rattle.book.specs.Book.{rule_of, judged, good_next, after_next, judge, check_book}
 
 -- a place of at most `most`
-abbrev pub BadWithin : ℕ → Checked → Type 0
-BadWithin most Good = Unit {0}
-BadWithin most (Bad at) = at ≤ most
+abbrev pub BadWithin : ℕ → Result (Unit {0}) ℕ → Type 0
+BadWithin most (Ok _) = Unit {0}
+BadWithin most (Err at) = at ≤ most
 
-judged_within : (most number : ℕ) (b : Bool) (rest : Checked) → number ≤ most → BadWithin most rest → BadWithin most (judged b rest number)
+judged_within : (most number : ℕ) (b : Bool) (rest : Result (Unit {0}) ℕ) → number ≤ most → BadWithin most rest → BadWithin most (judged b rest number)
 judged_within most number true rest h r = r
 judged_within most number false rest h r = h
 
@@ -33,6 +32,6 @@ unfolding check_book
 bad_within [] = omega arith
 bad_within (n ∷ ws) = go (ltb 64 n) refl
   where
-    go : (b : Bool) → ltb 64 n ≡ b → BadWithin 64 (pick b (Bad 64) (judge 0 n ws))
+    go : (b : Bool) → ltb 64 n ≡ b → BadWithin 64 (pick b (Err 64) (judge 0 n ws))
     go true e = omega arith
     go false e = let l : n ≤ 64 = ltb-false 64 n e in judge_within 64 0 n ws (omega arith)

@@ -7,14 +7,18 @@ use Prim.Native.Nat.{ℕ, zero, suc, ◌+◌, ◌-◌, ◌≤◌, ◌<◌}
 use native.Mathlib.Omega.{arith}
 use native.Mathlib.Numerals.{add-one}
 use lib.Dec.{leb}
-use lib.ListN.{length, length-append, take, drop, get_or, set, replicate, length-set, length-replicate, take-append-drop, drop_of_length-le}
+use lib.ListN.{length, length-append, take, drop, get_or, set, replicate, length-set, length-replicate, take-append-drop}
 use lib.Seq.{drop-cons, take-suc-set, drop-set-lt, length-take-le, take_at}
 use borrow.Author.Tests.{le-leb, lt-leb, leb-true}
+use Rattle.std.specs.Prelude.{Some, None}
+use Rattle.std.specs.List.{slice_range}
+use Rattle.std.proofs.lemmas.List.{get_or-take}
+use mathlib.Core.Logic.{◌⊎◌, inl, inr}
 use Rattle.term.specs.Word.{Head, symbol, abstraction, variable, pattern, pick, ident_of, head_of}
 use Rattle.term.specs.Check.{rank_or}
 use Rattle.term.proofs.Laws.{never, variable_word, rank_variable}
 use Rattle.book.specs.Rule.{id_before}
-use Rattle.book.specs.Told.Ids.{id_before_o, variable_ids, list_in, is_list, four_of}
+use Rattle.book.specs.Told.Ids.{id_before_o, variable_ids, list_in, four_of}
 
 abbrev pub ids_then : List ℕ → Option (List ℕ) → Option (List ℕ)
 ids_then xs none = none
@@ -31,6 +35,20 @@ other_head (some (pattern i c)) r n = refl
 then_more : (xs : List ℕ) (i : ℕ) (o : Option (List ℕ)) → ids_then xs (id_before (variable i) o) ≡ ids_then (xs ++ (i ∷ [])) o
 then_more xs i none = refl
 then_more xs i (some ys) = ap some (sym (append_assoc xs (i ∷ []) ys))
+
+-- none where there are fewer words
+few_ids : (k : ℕ) (ws : List ℕ) → length ws < k → variable_ids k ws ≡ none
+unfolding variable_ids
+few_ids zero ws h = absurd (omega arith)
+few_ids (suc k) [] h = refl
+few_ids (suc k) (w ∷ ws) h = rw (few_ids k ws (omega arith)) (before (head_of w))
+  where
+    before : (o : Option Head) → id_before_o o none ≡ none
+    before none = refl
+    before (some (symbol i c)) = refl
+    before (some abstraction) = refl
+    before (some (variable i)) = refl
+    before (some (pattern i c)) = refl
 
 -- ---- as many ids as were asked for
 abbrev LongO : ℕ → Option (List ℕ) → Type 0
@@ -60,8 +78,9 @@ list_length k ws ys e = go (leb k 4) refl e
     go false q z = never (cc)
 
 -- what is told where there is no list
-pub no_list : (k : ℕ) (ws ids : List ℕ) (all : Bool) → (ids ≡ four_of none) × (all ≡ false) → list_in k ws ≡ none → (ids ≡ four_of (list_in k ws)) × (all ≡ is_list (list_in k ws))
-no_list k ws ids all t e = rw e t
+pub no_list : (k : ℕ) (ws : List ℕ) → list_in k ws ≡ none → None ≡ four_of (list_in k ws)
+unfolding four_of
+no_list k ws e = rw e
 
 module _ (k : ℕ) (ws : List ℕ) (few : k ≤ 4) where
   -- what was read, and what is left
@@ -80,18 +99,14 @@ module _ (k : ℕ) (ws : List ℕ) (few : k ≤ 4) where
   left_suc j h = omega arith
 
   module _ (j : ℕ) (ids : List ℕ) (s : Sofar j ids) where
-    pub ids_ended : k ≤ j → (ids ≡ four_of (list_in k ws)) × (true ≡ is_list (list_in k ws))
+    pub ids_ended : k ≤ j → Some ids ≡ four_of (list_in k ws)
     unfolding four_of variable_ids
     ids_ended h =
         let z : k - j ≡ 0 = omega arith in
         let e : list_in k ws ≡ some (take j ids) = s.2 ∙ rw z (ap some (append-nil (take j ids))) in
         let l : length (take j ids) ≡ j = length-take-le j ids (omega (arith, s.0, s.1)) in
         let q : take j ids ++ replicate (4 - j) 0 ≡ ids = ap (λ (r : List ℕ). take j ids ++ r) (sym s.3) ∙ take-append-drop j ids in
-        rw (e, l) (sym q, refl)
-
-    pub ids_short : j < k → length ws ≤ j → list_in k ws ≡ none
-    unfolding variable_ids
-    ids_short h l = s.2 ∙ rw (left_suc j h, drop_of_length-le ws l)
+        rw (e, l) (ap Some (sym q))
 
     pub ids_other : j < k → j < length ws → (rank_or 4 (head_of (get_or ws j 0)) ≡ 2 → ⊥) → list_in k ws ≡ none
     unfolding variable_ids
@@ -118,27 +133,44 @@ module _ (k : ℕ) (ws : List ℕ) (few : k ≤ 4) where
       rw (add-one j) (drop-set-lt (suc j) ids j (ident_of (get_or ws j 0)) (omega arith) ∙ zeros_left (omega arith)),
     )
 
+pub ids_few : (k : ℕ) (ws : List ℕ) → length ws < k → list_in k ws ≡ none
+unfolding list_in
+ids_few k ws h = go (leb k 4)
+  where
+    go : (b : Bool) → pick b (variable_ids k ws) none ≡ none
+    go true = few_ids k ws h
+    go false = refl
+
+-- the words that `get` gives
+pub ended_before : (k n : ℕ) → (k < 0) ⊎ (n < k) → n < k
+ended_before k n (inl h) = absurd (omega arith)
+ended_before k n (inr h) = h
+
+pub taken : (k : ℕ) (ws us : List ℕ) → us ≡ slice_range ws 0 k → (j : ℕ) → j < k → get_or us j 0 ≡ get_or ws j 0
+taken k ws us e j h = let z : k - 0 ≡ k = omega arith in rw (e, z) (get_or-take k ws j 0 h)
+
 pub ids_many : (k : ℕ) (ws : List ℕ) → 4 < k → list_in k ws ≡ none
 unfolding list_in
 ids_many k ws h = rw (lt-leb k 4 h)
 
 -- what was told, for a caller
-module _ (k : ℕ) (ws ids : List ℕ) (all : Bool) (t : (ids ≡ four_of (list_in k ws)) × (all ≡ is_list (list_in k ws))) where
-  pub told_list : all ≡ true → (list_in k ws ≡ some (take k ids)) × (length ids ≡ 4) × (k ≤ 4)
-  unfolding four_of
-  told_list e = go (list_in k ws) refl t.0 (sym t.1 ∙ e)
-    where
-      go : (o : Option (List ℕ)) → list_in k ws ≡ o → ids ≡ four_of o → is_list o ≡ true → (o ≡ some (take k ids)) × (length ids ≡ 4) × (k ≤ 4)
-      go none q i z = never (cc)
-      go (some ys) q i z =
-          let l = list_length k ws ys q in
-          let n : length (ys ++ replicate (4 - length ys) 0) ≡ 4 =
-          length-append ys (replicate (4 - length ys) 0) ∙ rw (length-replicate {A = ℕ} (4 - length ys) 0) (omega (arith, l.0, l.1)) in
-          (ap some (sym (ap (take k) i ∙ take_at ys (replicate (4 - length ys) 0) k l.0)), ap length i ∙ n, l.1)
+pub told_list : (k : ℕ) (ws ids : List ℕ) → Some ids ≡ four_of (list_in k ws) → (list_in k ws ≡ some (take k ids)) × (length ids ≡ 4) × (k ≤ 4)
+unfolding four_of
+told_list k ws ids t = go (list_in k ws) refl t
+  where
+    go : (o : Option (List ℕ)) → list_in k ws ≡ o → Some ids ≡ four_of o → (o ≡ some (take k ids)) × (length ids ≡ 4) × (k ≤ 4)
+    go none q z = never (cc)
+    go (some ys) q z =
+        let i : ids ≡ ys ++ replicate (4 - length ys) 0 = cc in
+        let l = list_length k ws ys q in
+        let n : length (ys ++ replicate (4 - length ys) 0) ≡ 4 =
+        length-append ys (replicate (4 - length ys) 0) ∙ rw (length-replicate {A = ℕ} (4 - length ys) 0) (omega (arith, l.0, l.1)) in
+        (ap some (sym (ap (take k) i ∙ take_at ys (replicate (4 - length ys) 0) k l.0)), ap length i ∙ n, l.1)
 
-  pub told_none : all ≡ false → list_in k ws ≡ none
-  told_none e = go (list_in k ws) (sym t.1 ∙ e)
-    where
-      go : (o : Option (List ℕ)) → is_list o ≡ false → o ≡ none
-      go none z = refl
-      go (some ys) z = never (cc)
+pub told_none : (k : ℕ) (ws : List ℕ) → None ≡ four_of (list_in k ws) → list_in k ws ≡ none
+unfolding four_of
+told_none k ws t = go (list_in k ws) t
+  where
+    go : (o : Option (List ℕ)) → None ≡ four_of o → o ≡ none
+    go none z = refl
+    go (some ys) z = never (cc)

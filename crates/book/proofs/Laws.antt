@@ -17,6 +17,6 @@ pub use Rattle.book.proofs.Above.{words_rule, rule_words_lem, judge_end, judge_o
 -- The place of a bad book is at most 64.
 pub use Rattle.book.proofs.FirstBad.{BadWithin, bad_within}
 -- A book is accepted just where it is good, and else its answer is a refusal.
-pub use Rattle.book.proofs.Accepting.{good_accepted, bad_refused, accepted_good, refusal_number, check_book_is}
+pub use Rattle.book.proofs.Accepting.{mapped, good_accepted, bad_refused, accepted_good, refusal_number, check_book_is}
 -- A book as the list of its rules: good where each is sound and there are at most 64, refused where one is not or there are more.
 pub use Rattle.book.proofs.Listed.{Whole, AllWhole, AllSound, whole_words, together_nothing, together_rule, book_words, sound_book, many_refused, unsound_refused, book_sound}

@@ -10,12 +10,10 @@ use lib.Dec.{leb, ltb}
 use lib.ListN.{length, get_or, take, drop, length-drop, drop_of_length-le}
 use lib.Seq.{drop-cons, drop-drop, length-take-le}
 use borrow.Author.Tests.{le-leb, lt-leb, leb-true, leb-false, lt-ltb, le-ltb}
-use Rattle.term.specs.declared.check.Checked.TheVariants.{Good, Bad}
+use Rattle.std.specs.Prelude.{Ok, Err, Option as StdOption, None, Some}
 use Rattle.term.specs.Word.{pick}
 use Rattle.term.proofs.Laws.{never}
 use Rattle.book.specs.declared.book.Sides.{Sides}
-use Rattle.book.specs.declared.book.Found.{Found}
-use Rattle.book.specs.declared.book.Found.TheVariants as found
 use Rattle.book.specs.Rule.{good_rule}
 use Rattle.book.specs.Book.{Rule, rule_of, judged, good_next, after_next, judge, check_book, sound}
 use Rattle.book.specs.Told.Found.{sides_of, placed, end_next, seek, sides_at}
@@ -54,10 +52,10 @@ module _ (ws : List ℕ) (at : ℕ) where
   unfolding rule_of
   rule_said h = rw (three_words h)
 
-  pub place_short : length ws - at < 3 → found.None ≡ placed at (rule_of (drop at ws))
+  pub place_short : length ws - at < 3 → None ≡ placed at (rule_of (drop at ws))
   place_short h = sym (rw (rule_short (drop at ws) (rw (length-drop at ws) h)))
 
-  pub place_over : at + 3 ≤ length ws → length ws - at - 3 < left_size + right_size → found.None ≡ placed at (rule_of (drop at ws))
+  pub place_over : at + 3 ≤ length ws → length ws - at - 3 < left_size + right_size → None ≡ placed at (rule_of (drop at ws))
   place_over h l = sym (rw (rule_said h, lt-leb (left_size + right_size) (length behind) (rw (length-drop (at + 3) ws) (omega arith))))
 
   -- a rule that lies there
@@ -77,7 +75,7 @@ module _ (ws : List ℕ) (at : ℕ) where
     rule_there : rule_of (drop at ws) ≡ some (said, drop (left_size + right_size) behind)
     rule_there = rule_said h ∙ rw (le-leb (left_size + right_size) (length behind) (rw (length-drop (at + 3) ws) (omega arith)))
 
-    pub place_found : found.Rule (record { vars = get_or ws at 0; left = at + 3; right = at + 3 + left_size; end = at + 3 + left_size + right_size }) ≡ placed at (rule_of (drop at ws))
+    pub place_found : Some (record { vars = get_or ws at 0; left = at + 3; right = at + 3 + left_size; end = at + 3 + left_size + right_size }) ≡ placed at (rule_of (drop at ws))
     place_found = sym (rw (rule_there, left_length, right_length))
 
     said_lies : Lying said (drop (left_size + right_size) behind)
@@ -137,19 +135,19 @@ lies_placed ws at rule after e l =
       within = l.within;
     }
 
-pub rule_placed : (ws : List ℕ) (at : ℕ) (s : Sides) → found.Rule s ≡ placed at (rule_of (drop at ws)) → Placed ws at s
+pub rule_placed : (ws : List ℕ) (at : ℕ) (s : Sides) → Some s ≡ placed at (rule_of (drop at ws)) → Placed ws at s
 rule_placed ws at s e = go (rule_of (drop at ws)) refl (lying ws at) e
   where
-    go : (o : Option (Rule × List ℕ)) → rule_of (drop at ws) ≡ o → LyingO ws at o → found.Rule s ≡ placed at o → Placed ws at s
+    go : (o : Option (Rule × List ℕ)) → rule_of (drop at ws) ≡ o → LyingO ws at o → Some s ≡ placed at o → Placed ws at s
     go none q l e = never (cc)
     go (some p) q l e = let z : s ≡ sides_of at p.0 = cc in rw z (lies_placed ws at p.0 p.1 q l)
 
-pub none_placed : (at : ℕ) (o : Option (Rule × List ℕ)) → found.None ≡ placed at o → o ≡ none
+pub none_placed : (at : ℕ) (o : Option (Rule × List ℕ)) → None ≡ placed at o → o ≡ none
 none_placed at none e = refl
 none_placed at (some p) e = never (cc)
 
 -- ---- one rule alone
-pub unsound : (ws : List ℕ) → found.None ≡ placed 0 (rule_of (drop 0 ws)) → false ≡ sound ws
+pub unsound : (ws : List ℕ) → None ≡ placed 0 (rule_of (drop 0 ws)) → false ≡ sound ws
 unfolding sound
 unsound ws e = rw (none_placed 0 (rule_of ws) e)
 
@@ -159,7 +157,7 @@ unfolding sound
 sound_so ws s r p e = rw (p.is, p.vars_is, p.left_is, p.right_is) e
 
 -- ---- the search
-pub seek_nothing : (at number : ℕ) → seek at number [] ≡ found.None
+pub seek_nothing : (at number : ℕ) → seek at number [] ≡ None
 unfolding seek rule_of
 seek_nothing at zero = refl
 seek_nothing at (suc number) = seek_nothing at number
@@ -169,26 +167,26 @@ first_word [] h = absurd (h refl)
 first_word (w ∷ ws) h = refl
 
 module _ (ws : List ℕ) (number : ℕ) where
-  pub find_empty : length ws ≡ 0 → found.None ≡ sides_at ws number
+  pub find_empty : length ws ≡ 0 → None ≡ sides_at ws number
   unfolding sides_at
   find_empty e = go ws e
     where
-      go : (ws : List ℕ) → length ws ≡ 0 → found.None ≡ sides_at ws number
+      go : (ws : List ℕ) → length ws ≡ 0 → None ≡ sides_at ws number
       go [] e = refl
       go (w ∷ ws) e = absurd (omega arith)
 
   module _ (some_words : length ws ≡ 0 → ⊥) where
-    sides_word : sides_at ws number ≡ pick (ltb number (get_or ws 0 0)) (seek 1 number (drop 1 ws)) found.None
+    sides_word : sides_at ws number ≡ pick (ltb number (get_or ws 0 0)) (seek 1 number (drop 1 ws)) None
     unfolding sides_at
     sides_word = ap (λ (v : List ℕ). sides_at v number) (first_word ws some_words)
 
-    pub find_beyond : get_or ws 0 0 ≤ number → found.None ≡ sides_at ws number
+    pub find_beyond : get_or ws 0 0 ≤ number → None ≡ sides_at ws number
     find_beyond h = sym (sides_word ∙ rw (le-ltb number (get_or ws 0 0) h))
 
     pub find_start : number < get_or ws 0 0 → sides_at ws number ≡ seek 1 number (drop 1 ws)
     find_start h = sides_word ∙ rw (lt-ltb number (get_or ws 0 0) h)
 
-  pub find_none : (at before : ℕ) → sides_at ws number ≡ seek at before (drop at ws) → found.None ≡ placed at (rule_of (drop at ws)) → found.None ≡ sides_at ws number
+  pub find_none : (at before : ℕ) → sides_at ws number ≡ seek at before (drop at ws) → None ≡ placed at (rule_of (drop at ws)) → None ≡ sides_at ws number
   unfolding seek
   find_none at zero rest e = sym (rest ∙ sym e)
   find_none at (suc before) rest e = sym (rest ∙ rw (none_placed at (rule_of (drop at ws)) e) (seek_nothing at before))
@@ -201,26 +199,26 @@ module _ (ws : List ℕ) (number : ℕ) where
       let n : suc before - 1 ≡ before = omega arith in
       rest ∙ rw (n, p.ends, p.is)
 
-  pub find_done : (at before : ℕ) → before ≡ 0 → sides_at ws number ≡ seek at before (drop at ws) → (r : Found) → r ≡ placed at (rule_of (drop at ws)) → r ≡ sides_at ws number
+  pub find_done : (at before : ℕ) → before ≡ 0 → sides_at ws number ≡ seek at before (drop at ws) → (r : StdOption Sides) → r ≡ placed at (rule_of (drop at ws)) → r ≡ sides_at ws number
   unfolding seek
   find_done at before z rest r e = e ∙ sym (rest ∙ rw z)
 
 -- ---- the check
 module _ (ws : List ℕ) where
-  pub book_empty : length ws ≡ 0 → Bad 0 ≡ check_book ws
+  pub book_empty : length ws ≡ 0 → Err 0 ≡ check_book ws
   unfolding check_book
   book_empty e = go ws e
     where
-      go : (ws : List ℕ) → length ws ≡ 0 → Bad 0 ≡ check_book ws
+      go : (ws : List ℕ) → length ws ≡ 0 → Err 0 ≡ check_book ws
       go [] e = refl
       go (w ∷ ws) e = absurd (omega arith)
 
   module _ (some_words : length ws ≡ 0 → ⊥) where
-    book_word : check_book ws ≡ pick (ltb 64 (get_or ws 0 0)) (Bad 64) (judge 0 (get_or ws 0 0) (drop 1 ws))
+    book_word : check_book ws ≡ pick (ltb 64 (get_or ws 0 0)) (Err 64) (judge 0 (get_or ws 0 0) (drop 1 ws))
     unfolding check_book
     book_word = ap check_book (first_word ws some_words)
 
-    pub book_many : 64 < get_or ws 0 0 → Bad 64 ≡ check_book ws
+    pub book_many : 64 < get_or ws 0 0 → Err 64 ≡ check_book ws
     book_many h = sym (book_word ∙ rw (lt-ltb 64 (get_or ws 0 0) h))
 
     pub book_start : get_or ws 0 0 ≤ 64 → check_book ws ≡ judge 0 (get_or ws 0 0 - 0) (drop 1 ws)
@@ -232,7 +230,7 @@ module _ (ws : List ℕ) where
     unfolding judge
     one_more_lem h = let z : rules - number ≡ suc (rules - suc number) = omega arith in rest ∙ rw z
 
-    pub book_no_rule : number < rules → found.None ≡ placed at (rule_of (drop at ws)) → Bad number ≡ check_book ws
+    pub book_no_rule : number < rules → None ≡ placed at (rule_of (drop at ws)) → Err number ≡ check_book ws
     book_no_rule h e = sym (one_more_lem h ∙ rw (none_placed at (rule_of (drop at ws)) e))
 
     module _ (h : number < rules) (s : Sides) (p : Placed ws at s) where
@@ -241,17 +239,17 @@ module _ (ws : List ℕ) where
       placed_rule = cc (p.vars_is, p.left_is, p.right_is)
 
       pub book_bad_rule : good_rule s.vars (take (s.right - s.left) (drop s.left ws)) (take (s.end - s.right) (drop s.right ws)) ≡ false
-          → Bad number ≡ check_book ws
+          → Err number ≡ check_book ws
       book_bad_rule e = sym (one_more_lem h ∙ rw (p.is, placed_rule, e))
 
       pub book_next : good_rule s.vars (take (s.right - s.left) (drop s.left ws)) (take (s.end - s.right) (drop s.right ws)) ≡ true
           → check_book ws ≡ judge (number + 1) (rules - (number + 1)) (drop s.end ws)
       book_next e = one_more_lem h ∙ rw (p.is, placed_rule, e, add-one number)
 
-    pub book_left_over : rules ≤ number → at < length ws → Bad number ≡ check_book ws
+    pub book_left_over : rules ≤ number → at < length ws → Err number ≡ check_book ws
     unfolding judge
     book_left_over h l = let z : rules - number ≡ 0 = omega arith in sym (rest ∙ rw (z, drop-cons ws at 0 l))
 
-    pub book_good : rules ≤ number → length ws ≤ at → Good ≡ check_book ws
+    pub book_good : rules ≤ number → length ws ≤ at → Ok tt ≡ check_book ws
     unfolding judge
     book_good h l = let z : rules - number ≡ 0 = omega arith in sym (rest ∙ rw (z, drop_of_length-le ws l))

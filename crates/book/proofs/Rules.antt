@@ -8,16 +8,13 @@ use native.Mathlib.Omega.{arith}
 use lib.Dec.{leb, ltb, eqb}
 use lib.ListN.{length, get_or, take, drop}
 use borrow.Author.Tests.{leb-true, ltb-true, ltb-false, eqb-true, eqb-false}
-use Rattle.term.specs.declared.check.Checked.{Checked}
-use Rattle.term.specs.declared.check.Checked.TheVariants.{Good, Bad}
+use Rattle.std.specs.Prelude.{Result, Ok, Err, Option as StdOption, Some, None, is_ok}
 use Rattle.term.specs.Word.{pick, kind_of, ident_of, count_of}
 use Rattle.term.specs.Row.{read}
 use Rattle.term.specs.Check.{IsTree, check}
 use Rattle.term.proofs.Laws.{never, and_left, and_right, and_both}
 use Rattle.book.specs.declared.book.Sides.{Sides}
-use Rattle.book.specs.declared.book.Found.{Found}
-use Rattle.book.specs.declared.book.Found.TheVariants as found
-use Rattle.book.specs.Rule.{side_limits, is_good, root_symbol, left_shape, right_shape, shaped, counted, one_count, all_occur, no_other, good_left, good_right, good_rule}
+use Rattle.book.specs.Rule.{side_limits, root_symbol, left_shape, right_shape, shaped, counted, one_count, all_occur, no_other, good_left, good_right, good_rule}
 use Rattle.book.specs.Book.{Rule, rule_of, judged, good_next, after_next, judge, check_book, next_o, nth_rule, rule_at}
 use Rattle.book.specs.Told.Found.{placed, end_next, seek, sides_at}
 use Rattle.book.specs.Told.Occurs.{occurs_in, below_vars, counts_as}
@@ -93,7 +90,7 @@ record LeftFacts (vars : ℕ) (left : List ℕ) : Type 0 where
 left_facts : (vars : ℕ) (left : List ℕ) → good_left vars left ≡ true → LeftFacts vars left
 unfolding good_left
 left_facts vars left e =
-    let g = is_good (check side_limits left) in
+    let g = is_ok (check side_limits left) in
     let r = shaped root_symbol (read 1 left) in
     let l = shaped (left_shape 0) (read 1 left) in
     let n = no_other vars left in
@@ -121,7 +118,7 @@ record RightFacts (left right : List ℕ) : Type 0 where
 right_facts : (left right : List ℕ) → good_right left right ≡ true → RightFacts left right
 unfolding good_right
 right_facts left right e =
-    let g = is_good (check side_limits right) in
+    let g = is_ok (check side_limits right) in
     let l = shaped (right_shape 0) (read 1 right) in
     let e1 : l && one_count left right ≡ true = and_right g _ e in
     let i = side_tree right (good_is (check side_limits right) (and_left g _ e)) in
@@ -165,7 +162,7 @@ good_facts rule e =
     both_facts rule (leb-true rule.vars 16 (and_left v _ e)) (left_facts _ _ (and_left l r e1)) (right_facts _ _ (and_right l r e1))
 
 -- ---- the rules of a good book
-judged_good : (b : Bool) (c : Checked) (number : ℕ) → judged b c number ≡ Good → (b ≡ true) × (c ≡ Good)
+judged_good : (b : Bool) (c : Result (Unit {0}) ℕ) (number : ℕ) → judged b c number ≡ Ok tt → (b ≡ true) × (c ≡ Ok tt)
 judged_good true c number e = (refl, e)
 judged_good false c number e = never (cc)
 
@@ -173,7 +170,7 @@ next_good : (o : Option (Rule × List ℕ)) (rule : Rule) → good_next o ≡ tr
 next_good none rule g e = never (cc)
 next_good (some p) rule g e = let q : p.0 ≡ rule = cc in rw (← q) g
 
-nth_good : (more number from : ℕ) (ws : List ℕ) (rule : Rule) → judge from more ws ≡ Good → nth_rule more number ws ≡ some rule
+nth_good : (more number from : ℕ) (ws : List ℕ) (rule : Rule) → judge from more ws ≡ Ok tt → nth_rule more number ws ≡ some rule
     → good_rule rule.vars rule.left rule.right ≡ true
 unfolding judge nth_rule
 nth_good zero number from ws rule g e = never (cc)
@@ -185,7 +182,7 @@ next_some : (o : Option (Rule × List ℕ)) → good_next o ≡ true → (rule :
 next_some none g = never (cc)
 next_some (some p) g = (p.0, refl)
 
-nth_some : (more number from : ℕ) (ws : List ℕ) → judge from more ws ≡ Good → number < more → (rule : Rule) × (nth_rule more number ws ≡ some rule)
+nth_some : (more number from : ℕ) (ws : List ℕ) → judge from more ws ≡ Ok tt → number < more → (rule : Rule) × (nth_rule more number ws ≡ some rule)
 unfolding judge nth_rule
 nth_some zero number from ws g h = absurd (omega arith)
 nth_some (suc more) zero from ws g h = next_some (rule_of ws) (judged_good _ _ from g).0
@@ -200,27 +197,27 @@ nth_beyond (suc more) (suc number) ws h = nth_beyond more number (after_next (ru
 -- a good book has at most 64 rules, and these are good
 record BookFacts (n : ℕ) (ws : List ℕ) : Type 0 where
   few : n ≤ 64
-  judged_so : judge 0 n ws ≡ Good
+  judged_so : judge 0 n ws ≡ Ok tt
 
-book_facts : (n : ℕ) (ws : List ℕ) → check_book (n ∷ ws) ≡ Good → BookFacts n ws
+book_facts : (n : ℕ) (ws : List ℕ) → check_book (n ∷ ws) ≡ Ok tt → BookFacts n ws
 unfolding check_book
 book_facts n ws e = go (ltb 64 n) refl e
   where
-    go : (b : Bool) → ltb 64 n ≡ b → pick b (Bad 64) (judge 0 n ws) ≡ Good → BookFacts n ws
+    go : (b : Bool) → ltb 64 n ≡ b → pick b (Err 64) (judge 0 n ws) ≡ Ok tt → BookFacts n ws
     go true q e = never (cc)
     go false q e = record { few = ltb-false 64 n q; judged_so = e }
 
-pub book_rule : (ws : List ℕ) (number : ℕ) (rule : Rule) → check_book ws ≡ Good → rule_at ws number ≡ some rule → RuleFacts rule
+pub book_rule : (ws : List ℕ) (number : ℕ) (rule : Rule) → check_book ws ≡ Ok tt → rule_at ws number ≡ some rule → RuleFacts rule
 unfolding rule_at
 book_rule [] number rule g e = never (cc)
 book_rule (n ∷ ws) number rule g e = good_facts rule (nth_good n number 0 ws rule (book_facts n ws g).judged_so e)
 
-pub book_rules : (ws : List ℕ) → check_book ws ≡ Good → (1 ≤ length ws) × (get_or ws 0 0 ≤ 64)
+pub book_rules : (ws : List ℕ) → check_book ws ≡ Ok tt → (1 ≤ length ws) × (get_or ws 0 0 ≤ 64)
 unfolding check_book
 book_rules [] g = never (cc)
 book_rules (n ∷ ws) g = (omega arith, (book_facts n ws g).few)
 
-pub number_rule : (ws : List ℕ) (number : ℕ) → check_book ws ≡ Good → number < get_or ws 0 0 → (rule : Rule) × (rule_at ws number ≡ some rule)
+pub number_rule : (ws : List ℕ) (number : ℕ) → check_book ws ≡ Ok tt → number < get_or ws 0 0 → (rule : Rule) × (rule_at ws number ≡ some rule)
 unfolding rule_at
 number_rule [] number g h = absurd (omega arith)
 number_rule (n ∷ ws) number g h = nth_some n number 0 ws (book_facts n ws g).judged_so h
@@ -246,11 +243,11 @@ pub record SidesAre (ws : List ℕ) (rule : Rule) (s : Sides) : Type 0 where
   pub right_next : s.right ≤ s.end
   pub within : s.end ≤ length ws
 
-abbrev SidesO : List ℕ → Option Rule → Found → Type 0
-SidesO ws none found.None = Unit {0}
-SidesO ws none (found.Rule s) = ⊥
-SidesO ws (some rule) found.None = ⊥
-SidesO ws (some rule) (found.Rule s) = SidesAre ws rule s
+abbrev SidesO : List ℕ → Option Rule → StdOption Sides → Type 0
+SidesO ws none None = Unit {0}
+SidesO ws none (Some s) = ⊥
+SidesO ws (some rule) None = ⊥
+SidesO ws (some rule) (Some s) = SidesAre ws rule s
 
 next_sides : (ws : List ℕ) (at : ℕ) (o : Option (Rule × List ℕ)) → rule_of (drop at ws) ≡ o → LyingO ws at o → SidesO ws (next_o o) (placed at o)
 next_sides ws at none e l = tt
@@ -289,35 +286,35 @@ unfolding rule_at sides_at
 sides_of_lem [] number = tt
 sides_of_lem (n ∷ ws) number = go (ltb number n) refl
   where
-    go : (b : Bool) → ltb number n ≡ b → SidesO (n ∷ ws) (nth_rule n number ws) (pick b (seek 1 number ws) found.None)
+    go : (b : Bool) → ltb number n ≡ b → SidesO (n ∷ ws) (nth_rule n number ws) (pick b (seek 1 number ws) None)
     go true q = seek_sides (n ∷ ws) number n 1 (ltb-true number n q)
     go false q = rw (nth_beyond n number ws (ltb-false number n q)) tt
 
 module _ (ws : List ℕ) (number : ℕ) where
-  pub sides_rule : (s : Sides) → sides_at ws number ≡ found.Rule s → (rule : Rule) × (rule_at ws number ≡ some rule) × SidesAre ws rule s
+  pub sides_rule : (s : Sides) → sides_at ws number ≡ Some s → (rule : Rule) × (rule_at ws number ≡ some rule) × SidesAre ws rule s
   sides_rule s e = go (rule_at ws number) refl (rw e at (sides_of_lem ws number))
     where
-      go : (o : Option Rule) → rule_at ws number ≡ o → SidesO ws o (found.Rule s) → (rule : Rule) × (rule_at ws number ≡ some rule) × SidesAre ws rule s
+      go : (o : Option Rule) → rule_at ws number ≡ o → SidesO ws o (Some s) → (rule : Rule) × (rule_at ws number ≡ some rule) × SidesAre ws rule s
       go none q f = absurd f
       go (some rule) q f = (rule, q, f)
 
-  pub sides_none : sides_at ws number ≡ found.None → rule_at ws number ≡ none
+  pub sides_none : sides_at ws number ≡ None → rule_at ws number ≡ none
   sides_none e = go (rule_at ws number) refl (rw e at (sides_of_lem ws number))
     where
-      go : (o : Option Rule) → rule_at ws number ≡ o → SidesO ws o found.None → rule_at ws number ≡ none
+      go : (o : Option Rule) → rule_at ws number ≡ o → SidesO ws o None → rule_at ws number ≡ none
       go none q f = q
       go (some rule) q f = absurd f
 
-  pub rule_sides : (rule : Rule) → rule_at ws number ≡ some rule → (s : Sides) × (sides_at ws number ≡ found.Rule s) × SidesAre ws rule s
+  pub rule_sides : (rule : Rule) → rule_at ws number ≡ some rule → (s : Sides) × (sides_at ws number ≡ Some s) × SidesAre ws rule s
   rule_sides rule e = go (sides_at ws number) refl (rw e at (sides_of_lem ws number))
     where
-      go : (r : Found) → sides_at ws number ≡ r → SidesO ws (some rule) r → (s : Sides) × (sides_at ws number ≡ found.Rule s) × SidesAre ws rule s
-      go found.None q f = absurd f
-      go (found.Rule s) q f = (s, q, f)
+      go : (r : StdOption Sides) → sides_at ws number ≡ r → SidesO ws (some rule) r → (s : Sides) × (sides_at ws number ≡ Some s) × SidesAre ws rule s
+      go None q f = absurd f
+      go (Some s) q f = (s, q, f)
 
-  pub none_sides : rule_at ws number ≡ none → sides_at ws number ≡ found.None
+  pub none_sides : rule_at ws number ≡ none → sides_at ws number ≡ None
   none_sides e = go (sides_at ws number) refl (rw e at (sides_of_lem ws number))
     where
-      go : (r : Found) → sides_at ws number ≡ r → SidesO ws none r → sides_at ws number ≡ found.None
-      go found.None q f = q
-      go (found.Rule s) q f = absurd f
+      go : (r : StdOption Sides) → sides_at ws number ≡ r → SidesO ws none r → sides_at ws number ≡ None
+      go None q f = q
+      go (Some s) q f = absurd f

@@ -10,8 +10,7 @@ use lib.Dec.{leb, eqb}
 use lib.ListN.{length, drop, get_or, length-append, length-drop}
 use lib.Seq.{drop-cons, drop-drop, drop_at}
 use borrow.Author.Tests.{le-leb}
-use Rattle.term.specs.declared.renumber.Passed.{Passed}
-use Rattle.term.specs.declared.renumber.Passed.TheVariants.{Done, Stuck}
+use Rattle.std.specs.Prelude.{Option as StdOption, Some, None}
 use Rattle.term.specs.Word
 use Rattle.term.specs.Word.{Head, symbol, abstraction, variable, pattern, pick, kind, kind_of, count_of, ident_of, word, InTable, head_of}
 use Rattle.term.specs.Row.{Row, nothing, node, width, words, Formed}
@@ -21,7 +20,7 @@ use Rattle.term.proofs.Laws.{never, words_node, words_nothing, width_node, width
 use Rattle.book.specs.declared.shape.Side.{Side}
 use Rattle.book.specs.declared.shape.Side.TheVariants.{Left, Right}
 use Rattle.book.specs.declared.shape.Front.{Front}
-use Rattle.book.specs.declared.shape.Front.TheVariants.{Past, Inside, Bad}
+use Rattle.book.specs.declared.shape.Front.TheVariants.{Past, Inside}
 use Rattle.book.specs.Rule.{id_before, ids_of, list_for, left_shape, right_shape}
 use Rattle.book.specs.Told.Ids.{variable_ids, list_in}
 use Rattle.book.specs.Told.Shape.{shape_of, front_of, SideStands, SideTold}
@@ -145,16 +144,16 @@ shape_nothing Left d = refl
 shape_nothing Right d = refl
 
 -- a step that is told by a test
-picked_done : (b : Bool) (n m : ℕ) → Done n ≡ pick b (Done m) Stuck → (b ≡ true) × (n ≡ m)
+picked_done : (b : Bool) (n m : ℕ) → Some n ≡ pick b (Some m) None → (b ≡ true) × (n ≡ m)
 picked_done true n m e = (refl, cc)
 picked_done false n m e = never (cc)
 
-picked_stuck : (b : Bool) (m : ℕ) → Stuck ≡ pick b (Done m) Stuck → b ≡ false
+picked_stuck : (b : Bool) (m : ℕ) → None ≡ pick b (Some m) None → b ≡ false
 picked_stuck true m e = never (cc)
 picked_stuck false m e = refl
 
 module _ (side : Side) (d levels count : ℕ) (ws : List ℕ) (at : ℕ) where
-  pub side_none : count ≡ 0 → SideTold side d levels count ws at (Done at)
+  pub side_none : count ≡ 0 → SideTold side d levels count ws at (Some at)
   unfolding SideTold
   side_none z f after s =
       let e : f ≡ nothing = none_width f (s.wide ∙ z) in
@@ -162,28 +161,28 @@ module _ (side : Side) (d levels count : ℕ) (ws : List ℕ) (at : ℕ) where
       rw (n, e, shape_nothing side d)
 
   module _ (z : count ≡ 0 → ⊥) where
-    pub side_deep : levels ≡ 0 → SideTold side d levels count ws at Stuck
+    pub side_deep : levels ≡ 0 → SideTold side d levels count ws at None
     unfolding SideTold
     side_deep l f after s = absurd (omega (arith, l, (first levels count ws at z f after s).levelled))
 
-    pub side_ended : length ws ≤ at → SideTold side d levels count ws at Stuck
+    pub side_ended : length ws ≤ at → SideTold side d levels count ws at None
     unfolding SideTold
     side_ended l f after s = absurd (omega (arith, l, (first levels count ws at z f after s).within))
 
-    pub side_stuck : SideTold side d levels 1 ws at Stuck → SideTold side d levels count ws at Stuck
+    pub side_stuck : SideTold side d levels 1 ws at None → SideTold side d levels count ws at None
     unfolding SideTold
     side_stuck told f after s = shown (first levels count ws at z f after s)
       where
-        shown : SideFirst levels count ws at f after → Stuck ≡ pick (shape_of side d f) (Done (at + length (words f))) Stuck
+        shown : SideFirst levels count ws at f after → None ≡ pick (shape_of side d f) (Some (at + length (words f))) None
         shown x =
             let n : shape_of side d (node x.head x.children nothing) ≡ false = picked_stuck _ _ (told (node x.head x.children nothing) (words x.right ++ after) x.alone) in
             rw (x.is, shape_split side d x.head x.children x.right, n)
 
-    pub side_more : (a : ℕ) → SideTold side d levels 1 ws at (Done a) → (r : Passed) → SideTold side d levels (count - 1) ws a r → SideTold side d levels count ws at r
+    pub side_more : (a : ℕ) → SideTold side d levels 1 ws at (Some a) → (r : StdOption ℕ) → SideTold side d levels (count - 1) ws a r → SideTold side d levels count ws at r
     unfolding SideTold
     side_more a told r rest f after s = shown (first levels count ws at z f after s)
       where
-        shown : SideFirst levels count ws at f after → r ≡ pick (shape_of side d f) (Done (at + length (words f))) Stuck
+        shown : SideFirst levels count ws at f after → r ≡ pick (shape_of side d f) (Some (at + length (words f))) None
         shown x =
             let n : (shape_of side d (node x.head x.children nothing) ≡ true) × (a ≡ at + length (words (node x.head x.children nothing))) = picked_done _ _ _ (told (node x.head x.children nothing) (words x.right ++ after) x.alone) in
             let m = rest x.right after (rw n.1 x.beside) in
@@ -223,21 +222,21 @@ lone levels ws at l (node h kids rest) after s =
     }
 
 -- what a front says of the tree's shape
-data FrontIs (side : Side) (d : ℕ) (h : Head) (kids : Row) : Front → Type 0 where
-  past : (n : ℕ) → shape_of side d (node h kids nothing) ≡ true → n ≡ 1 + length (words kids) → FrontIs side d h kids (Past n)
-  goes : shape_of side d (node h kids nothing) ≡ shape_of side (inside h d) kids → FrontIs side d h kids Inside
-  stops : shape_of side d (node h kids nothing) ≡ false → FrontIs side d h kids Bad
+data FrontIs (side : Side) (d : ℕ) (h : Head) (kids : Row) : StdOption Front → Type 0 where
+  past : (n : ℕ) → shape_of side d (node h kids nothing) ≡ true → n ≡ 1 + length (words kids) → FrontIs side d h kids (Some (Past n))
+  goes : shape_of side d (node h kids nothing) ≡ shape_of side (inside h d) kids → FrontIs side d h kids (Some Inside)
+  stops : shape_of side d (node h kids nothing) ≡ false → FrontIs side d h kids None
 
 and_true : (a : Bool) → a && true ≡ a
 and_true true = refl
 and_true false = refl
 
-list_front : (d x c : ℕ) (kids : Row) (o : Option (List ℕ)) → Formed kids → width kids ≡ c → ids_of kids ≡ o → FrontIs Left d (pattern x c) kids (pick (list_for d o) (Past (1 + c)) Bad)
+list_front : (d x c : ℕ) (kids : Row) (o : Option (List ℕ)) → Formed kids → width kids ≡ c → ids_of kids ≡ o → FrontIs Left d (pattern x c) kids (pick (list_for d o) (Some (Past (1 + c))) None)
 unfolding shape_of left_shape
 list_front d x c kids none f w e = stops (rw e)
 list_front d x c kids (some ys) f w e = go (list_for d (some ys)) refl
   where
-    go : (b : Bool) → list_for d (some ys) ≡ b → FrontIs Left d (pattern x c) kids (pick b (Past (1 + c)) Bad)
+    go : (b : Bool) → list_for d (some ys) ≡ b → FrontIs Left d (pattern x c) kids (pick b (Some (Past (1 + c))) None)
     go true q = past (1 + c) (rw (e, q)) (omega (arith, ids_length kids ys f e, w))
     go false q = stops (rw (e, q))
 
@@ -257,7 +256,7 @@ front_is Right d (variable i) kids after g = rw (kind_word (variable i) g.table,
     none_below : kids ≡ nothing
     none_below = none_width kids (g.full ∙ count_variable i)
 
-    go : (b : Bool) → leb i d ≡ b → FrontIs Right d (variable i) kids (pick b (Past 1) Bad)
+    go : (b : Bool) → leb i d ≡ b → FrontIs Right d (variable i) kids (pick b (Some (Past 1)) None)
     go true e = past 1 (rw e) (omega (arith, ap (λ (x : Row). length (words x)) none_below, ap length words_nothing))
     go false e = stops (rw e)
 front_is Right d (pattern x c) kids after g = rw (kind_word (pattern x c) g.table, kind_pattern x c) (goes (rw (inside_pattern x c d) (and_true (right_shape d kids))))
@@ -266,52 +265,52 @@ module _ (side : Side) (d levels : ℕ) (ws : List ℕ) (at : ℕ) (l : at < len
   front_at : (f : Row) (after : List ℕ) (x : Lone levels ws at f after) → FrontIs side d x.head x.children (front_of side d (get_or ws at 0) (drop (at + 1) ws))
   front_at f after x = rw (← x.word_is, x.below.same) (front_is side d x.head x.children after x.formed)
 
-  pub tree_past : (n : ℕ) → front_of side d (get_or ws at 0) (drop (at + 1) ws) ≡ Past n → SideTold side d levels 1 ws at (Done (at + n))
+  pub tree_past : (n : ℕ) → front_of side d (get_or ws at 0) (drop (at + 1) ws) ≡ Some (Past n) → SideTold side d levels 1 ws at (Some (at + n))
   unfolding SideTold
   tree_past n e f after s = shown (lone levels ws at l f after s)
     where
-      shown : Lone levels ws at f after → Done (at + n) ≡ pick (shape_of side d f) (Done (at + length (words f))) Stuck
+      shown : Lone levels ws at f after → Some (at + n) ≡ pick (shape_of side d f) (Some (at + length (words f))) None
       shown x = go (rw e at (front_at f after x))
         where
-          go : FrontIs side d x.head x.children (Past n) → Done (at + n) ≡ pick (shape_of side d f) (Done (at + length (words f))) Stuck
+          go : FrontIs side d x.head x.children (Some (Past n)) → Some (at + n) ≡ pick (shape_of side d f) (Some (at + length (words f))) None
           go (past m a b) = let q : at + length (words f) ≡ at + n = omega (arith, b, x.long) in rw (q, x.is, a)
 
-  pub tree_bad : front_of side d (get_or ws at 0) (drop (at + 1) ws) ≡ Bad → SideTold side d levels 1 ws at Stuck
+  pub tree_bad : front_of side d (get_or ws at 0) (drop (at + 1) ws) ≡ None → SideTold side d levels 1 ws at None
   unfolding SideTold
   tree_bad e f after s = shown (lone levels ws at l f after s)
     where
-      shown : Lone levels ws at f after → Stuck ≡ pick (shape_of side d f) (Done (at + length (words f))) Stuck
+      shown : Lone levels ws at f after → None ≡ pick (shape_of side d f) (Some (at + length (words f))) None
       shown x = go (rw e at (front_at f after x))
         where
-          go : FrontIs side d x.head x.children Bad → Stuck ≡ pick (shape_of side d f) (Done (at + length (words f))) Stuck
+          go : FrontIs side d x.head x.children None → None ≡ pick (shape_of side d f) (Some (at + length (words f))) None
           go (stops a) = rw (x.is, a)
 
-  pub tree_inside : front_of side d (get_or ws at 0) (drop (at + 1) ws) ≡ Inside → (r : Passed)
+  pub tree_inside : front_of side d (get_or ws at 0) (drop (at + 1) ws) ≡ Some Inside → (r : StdOption ℕ)
       → SideTold side (inside_word (get_or ws at 0) d) (levels - 1) (count_of (get_or ws at 0)) ws (at + 1) r → SideTold side d levels 1 ws at r
   unfolding SideTold
   tree_inside e r told f after s = shown (lone levels ws at l f after s)
     where
-      shown : Lone levels ws at f after → r ≡ pick (shape_of side d f) (Done (at + length (words f))) Stuck
+      shown : Lone levels ws at f after → r ≡ pick (shape_of side d f) (Some (at + length (words f))) None
       shown x = go (rw e at (front_at f after x))
         where
-          go : FrontIs side d x.head x.children Inside → r ≡ pick (shape_of side d f) (Done (at + length (words f))) Stuck
+          go : FrontIs side d x.head x.children (Some Inside) → r ≡ pick (shape_of side d f) (Some (at + length (words f))) None
           go (goes a) =
               let i : inside x.head d ≡ inside_word (get_or ws at 0) d = sym (inside_is x.head d x.formed.table) ∙ ap (λ (w : ℕ). inside_word w d) x.word_is in
               let q : at + length (words f) ≡ at + 1 + length (words x.children) = omega (arith, x.long) in
               rw (q, x.is, a, i) (told x.children after x.below)
 
-pub past_small : (side : Side) (d w : ℕ) (ws : List ℕ) (n : ℕ) → front_of side d w ws ≡ Past n → n ≤ 256
+pub past_small : (side : Side) (d w : ℕ) (ws : List ℕ) (n : ℕ) → front_of side d w ws ≡ Some (Past n) → n ≤ 256
 unfolding front_of
 past_small Left d w ws n e = go (eqb (kind_of w) 2) (eqb (kind_of w) 3) (list_for d (list_in (count_of w) ws)) e
   where
-    go : (a b c : Bool) → pick a Bad (pick b (pick c (Past (1 + count_of w)) Bad) Inside) ≡ Past n → n ≤ 256
+    go : (a b c : Bool) → pick a None (pick b (pick c (Some (Past (1 + count_of w))) None) (Some Inside)) ≡ Some (Past n) → n ≤ 256
     go true b c q = never (cc)
     go false true true q = let z : 1 + count_of w ≡ n = cc in omega arith
     go false true false q = never (cc)
     go false false c q = never (cc)
 past_small Right d w ws n e = go (eqb (kind_of w) 2) (leb (ident_of w) d) e
   where
-    go : (a b : Bool) → pick a (pick b (Past 1) Bad) Inside ≡ Past n → n ≤ 256
+    go : (a b : Bool) → pick a (pick b (Some (Past 1)) None) (Some Inside) ≡ Some (Past n) → n ≤ 256
     go true true q = let z : ◌≡◌ {A = ℕ} 1 n = cc in omega arith
     go true false q = never (cc)
     go false b q = never (cc)

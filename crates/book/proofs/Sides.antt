@@ -3,35 +3,33 @@ use mathlib.Core.Path.{◌≡◌, refl, sym, ap, ◌∙◌}
 use mathlib.Core.Bool.{Bool, true, false, ◌&&◌}
 use mathlib.Core.List.{List, [], ◌++◌, append-nil}
 use mathlib.Core.Option.{some}
-use Prim.Native.Nat.{ℕ, suc, ◌+◌, ◌≤◌, ◌<◌}
+use Prim.Native.Nat.{ℕ, suc, ◌+◌}
 use native.Mathlib.Omega.{arith}
 use lib.Dec.{ltb, eqb}
 use lib.ListN.{length, get_or}
-use borrow.Author.Tests.{le-leb, lt-leb, lt-ltb}
-use Rattle.term.specs.declared.check.Checked.{Checked}
-use Rattle.term.specs.declared.check.Checked.TheVariants.{Good, Bad}
-use Rattle.term.specs.declared.renumber.Passed.TheVariants.{Done, Stuck}
+use borrow.Author.Tests.{lt-ltb}
+use Rattle.std.specs.Prelude.{Result, Ok, Err, is_ok, Option, Some, None, is_some}
 use Rattle.term.specs.Word.{Head, symbol, abstraction, variable, pattern, pick, word, InTable, kind_of}
 use Rattle.term.specs.Row.{Row, nothing, node, width, words, Formed, read}
 use Rattle.term.specs.Check.{IsTree, check}
 use Rattle.term.proofs.Laws.{never, and_left, good_tree, read_words_lem, words_node, width_nothing, formed_node, kind_word, kind_symbol, kind_abstraction, kind_variable, kind_pattern}
 use Rattle.book.specs.declared.shape.Side.{Side}
 use Rattle.book.specs.declared.shape.Side.TheVariants.{Left, Right}
-use Rattle.book.specs.Rule.{side_limits, is_good, root_symbol, left_shape, right_shape, shaped, no_other, all_occur, one_count, good_left, good_right, good_rule}
+use Rattle.book.specs.Rule.{side_limits, root_symbol, left_shape, right_shape, shaped, no_other, all_occur, one_count, good_left, good_right}
 use Rattle.book.specs.Told.Shape.{shape_of, SideTold}
 use Rattle.book.proofs.Clauses.{root_symbol_lem, root_abstraction, root_variable, root_pattern}
 
 -- what an answer says of the shape
-stuck_false : (b : Bool) (a : ℕ) → Stuck ≡ pick b (Done a) Stuck → b ≡ false
+stuck_false : (b : Bool) (a : ℕ) → None ≡ pick b (Some a) None → b ≡ false
 stuck_false true a e = never (cc)
 stuck_false false a e = refl
 
-done_true : (b : Bool) (a c : ℕ) → Done c ≡ pick b (Done a) Stuck → b ≡ true
+done_true : (b : Bool) (a c : ℕ) → Some c ≡ pick b (Some a) None → b ≡ true
 done_true true a c e = refl
 done_true false a c e = never (cc)
 
 -- a side that is good is a tree, and is read as that tree
-pub side_tree : (ws : List ℕ) → check side_limits ws ≡ Good → IsTree side_limits ws
+pub side_tree : (ws : List ℕ) → check side_limits ws ≡ Ok tt → IsTree side_limits ws
 side_tree ws g = good_tree side_limits (omega arith) ws g
 
 pub tree_read : (ws : List ℕ) (i : IsTree side_limits ws) → read 1 ws ≡ some (i.tree, [])
@@ -39,20 +37,24 @@ tree_read ws i =
     let a : ws ≡ words i.tree ++ [] = i.same ∙ sym (append-nil _) in
     rw a (rw i.one at (read_words_lem i.tree i.formed []))
 
-module _ (side : Side) (ws : List ℕ) (g : check side_limits ws ≡ Good) where
-  told_shape : (r : _) → SideTold side 0 16 1 ws 0 r → r ≡ pick (shape_of side 0 (side_tree ws g).tree) (Done (0 + length (words (side_tree ws g).tree))) Stuck
+module _ (side : Side) (ws : List ℕ) (g : check side_limits ws ≡ Ok tt) where
+  told_shape : (r : _) → SideTold side 0 16 1 ws 0 r → r ≡ pick (shape_of side 0 (side_tree ws g).tree) (Some (0 + length (words (side_tree ws g).tree))) None
   unfolding SideTold
   told_shape r told =
       let i = side_tree ws g in
       told i.tree [] (record { formed = i.formed; low = i.low; wide = i.one; same = i.same ∙ sym (append-nil _) })
 
-  pub side_good : (a : ℕ) → SideTold side 0 16 1 ws 0 (Done a) → true ≡ is_good (check side_limits ws) && shaped (shape_of side 0) (read 1 ws)
-  side_good a told = sym (rw (g, tree_read ws (side_tree ws g)) (done_true _ _ a (told_shape (Done a) told)))
+  pub side_good : (a : ℕ) → SideTold side 0 16 1 ws 0 (Some a) → true ≡ is_ok (check side_limits ws) && shaped (shape_of side 0) (read 1 ws)
+  side_good a told = sym (rw (g, tree_read ws (side_tree ws g)) (done_true _ _ a (told_shape (Some a) told)))
 
-  pub side_unshaped : SideTold side 0 16 1 ws 0 Stuck → false ≡ is_good (check side_limits ws) && shaped (shape_of side 0) (read 1 ws)
-  side_unshaped told = sym (rw (g, tree_read ws (side_tree ws g)) (stuck_false _ _ (told_shape Stuck told)))
+  pub side_unshaped : SideTold side 0 16 1 ws 0 None → false ≡ is_ok (check side_limits ws) && shaped (shape_of side 0) (read 1 ws)
+  side_unshaped told = sym (rw (g, tree_read ws (side_tree ws g)) (stuck_false _ _ (told_shape None told)))
 
-pub side_no_tree : (side : Side) (ws : List ℕ) (at : ℕ) → check side_limits ws ≡ Bad at → false ≡ is_good (check side_limits ws) && shaped (shape_of side 0) (read 1 ws)
+  pub side_told : (r : Option ℕ) → SideTold side 0 16 1 ws 0 r → is_some r ≡ is_ok (check side_limits ws) && shaped (shape_of side 0) (read 1 ws)
+  side_told None told = side_unshaped told
+  side_told (Some a) told = side_good a told
+
+pub side_no_tree : (side : Side) (ws : List ℕ) (at : ℕ) → check side_limits ws ≡ Err at → false ≡ is_ok (check side_limits ws) && shaped (shape_of side 0) (read 1 ws)
 side_no_tree side ws at e = sym (rw e)
 
 -- ---- the root
@@ -72,14 +74,14 @@ root_tree_lem ws i =
     rw (tree_read ws i)
     (root_row i.tree i.formed i.one ∙ ap (λ (v : List ℕ). ltb 0 (length v) && eqb (kind_of (get_or v 0 0)) 0) (sym i.same))
 
-pub good_is : (c : Checked) → is_good c ≡ true → c ≡ Good
-good_is Good e = refl
-good_is (Bad at) e = never (cc)
+pub good_is : (c : Result (Unit {0}) ℕ) → is_ok c ≡ true → c ≡ Ok tt
+good_is (Ok _) e = refl
+good_is (Err at) e = never (cc)
 
-pub root_is_lem : (ws : List ℕ) (s : Bool) → is_good (check side_limits ws) && s ≡ true
+pub root_is_lem : (ws : List ℕ) (s : Bool) → is_ok (check side_limits ws) && s ≡ true
     → shaped root_symbol (read 1 ws) ≡ ltb 0 (length ws) && eqb (kind_of (get_or ws 0 0)) 0
 root_is_lem ws s e =
-    root_tree_lem ws (side_tree ws (good_is (check side_limits ws) (and_left (is_good (check side_limits ws)) s e)))
+    root_tree_lem ws (side_tree ws (good_is (check side_limits ws) (and_left (is_ok (check side_limits ws)) s e)))
 
 -- ---- a left side
 swap : (g r l n : Bool) → g && (r && (l && n)) ≡ (g && l) && (r && n)
@@ -88,57 +90,26 @@ swap true false false n = refl
 swap true false true n = refl
 swap true true l n = refl
 
-module _ (vars : ℕ) (ws : List ℕ) (s : Bool) (side : s ≡ is_good (check side_limits ws) && shaped (shape_of Left 0) (read 1 ws)) where
-  left_split : good_left vars ws ≡ s && (shaped root_symbol (read 1 ws) && (no_other vars ws && (all_occur vars ws && one_count ws ws)))
-  unfolding good_left shape_of
-  left_split = rw side
-      (swap (is_good (check side_limits ws)) (shaped root_symbol (read 1 ws)) (shaped (left_shape 0) (read 1 ws)) (no_other vars ws && (all_occur vars ws && one_count ws ws)))
+-- the root is asked only of a tree
+rooted : (ws : List ℕ) (s rest : Bool) → s ≡ is_ok (check side_limits ws) && shaped (shape_of Left 0) (read 1 ws)
+    → s && (shaped root_symbol (read 1 ws) && rest) ≡ s && ((ltb 0 (length ws) && eqb (kind_of (get_or ws 0 0)) 0) && rest)
+rooted ws true rest e = rw (root_is_lem ws (shaped (shape_of Left 0) (read 1 ws)) (sym e))
+rooted ws false rest e = refl
 
-  pub left_bad : s ≡ false → false ≡ good_left vars ws
-  left_bad e = sym (left_split ∙ rw e)
-
-  module _ (t : s ≡ true) where
-    left_rest : good_left vars ws ≡ (ltb 0 (length ws) && eqb (kind_of (get_or ws 0 0)) 0) && (no_other vars ws && (all_occur vars ws && one_count ws ws))
-    left_rest = left_split ∙ rw (t, root_is_lem ws (shaped (shape_of Left 0) (read 1 ws)) (sym side ∙ t))
-
-    pub left_root : ltb 0 (length ws) && eqb (kind_of (get_or ws 0 0)) 0 ≡ false → false ≡ good_left vars ws
-    left_root e = sym (left_rest ∙ rw e)
-
-    module _ (u : ltb 0 (length ws) && eqb (kind_of (get_or ws 0 0)) 0 ≡ true) where
-      pub left_other : no_other vars ws ≡ false → false ≡ good_left vars ws
-      left_other e = sym (left_rest ∙ rw (u, e))
-
-      pub left_absent : no_other vars ws ≡ true → all_occur vars ws ≡ false → false ≡ good_left vars ws
-      left_absent n e = sym (left_rest ∙ rw (u, n, e))
-
-      pub left_counts : no_other vars ws ≡ true → all_occur vars ws ≡ true → (r : Bool) → r ≡ one_count ws ws → r ≡ good_left vars ws
-      left_counts n a r e = e ∙ sym (left_rest ∙ rw (u, n, a))
+pub left_parts : (vars : ℕ) (ws : List ℕ) → good_left vars ws
+    ≡ (is_ok (check side_limits ws) && shaped (shape_of Left 0) (read 1 ws))
+    && ((ltb 0 (length ws) && eqb (kind_of (get_or ws 0 0)) 0) && (no_other vars ws && (all_occur vars ws && one_count ws ws)))
+unfolding good_left shape_of
+left_parts vars ws =
+    swap (is_ok (check side_limits ws)) (shaped root_symbol (read 1 ws)) (shaped (left_shape 0) (read 1 ws)) (no_other vars ws && (all_occur vars ws && one_count ws ws))
+    ∙ rooted ws (is_ok (check side_limits ws) && shaped (left_shape 0) (read 1 ws)) (no_other vars ws && (all_occur vars ws && one_count ws ws)) refl
 
 -- ---- a right side, and a rule
 and_assoc : (a b c : Bool) → a && (b && c) ≡ (a && b) && c
 and_assoc true b c = refl
 and_assoc false b c = refl
 
-module _ (left right : List ℕ) (s : Bool) (side : s ≡ is_good (check side_limits right) && shaped (shape_of Right 0) (read 1 right)) where
-  right_split : good_right left right ≡ s && one_count left right
-  unfolding good_right shape_of
-  right_split = rw side (and_assoc (is_good (check side_limits right)) (shaped (right_shape 0) (read 1 right)) (one_count left right))
-
-  pub right_bad : s ≡ false → false ≡ good_right left right
-  right_bad e = sym (right_split ∙ rw e)
-
-  pub right_counts : s ≡ true → (r : Bool) → r ≡ one_count left right → r ≡ good_right left right
-  right_counts t r e = e ∙ sym (right_split ∙ rw t)
-
-module _ (vars : ℕ) (left right : List ℕ) where
-  pub rule_vars : 16 < vars → false ≡ good_rule vars left right
-  unfolding good_rule
-  rule_vars h = sym (rw (lt-leb vars 16 h))
-
-  pub rule_left : vars ≤ 16 → good_left vars left ≡ false → false ≡ good_rule vars left right
-  unfolding good_rule
-  rule_left h e = sym (rw (le-leb vars 16 h, e))
-
-  pub rule_right : vars ≤ 16 → good_left vars left ≡ true → (r : Bool) → r ≡ good_right left right → r ≡ good_rule vars left right
-  unfolding good_rule
-  rule_right h e r q = q ∙ sym (rw (le-leb vars 16 h, e))
+pub right_parts : (left right : List ℕ) → good_right left right
+    ≡ (is_ok (check side_limits right) && shaped (shape_of Right 0) (read 1 right)) && one_count left right
+unfolding good_right shape_of
+right_parts left right = and_assoc (is_ok (check side_limits right)) (shaped (right_shape 0) (read 1 right)) (one_count left right)

@@ -1,8 +1,6 @@
 -- Document 01, "The book": the number of rules, then the rules, and nothing after; and the first bad rule.
-use Rattle.std.specs.Prelude.{ℕ, zero, suc, ◌+◌, Bool, true, false, List, [], ◌∷◌, ◌++◌, length, take, drop, leb, ltb}
+use Rattle.std.specs.Prelude.{ℕ, zero, suc, ◌+◌, Bool, true, false, List, [], ◌∷◌, ◌++◌, length, take, drop, leb, ltb, Result, Ok, Err}
 use Rattle.std.proofs.Math.Option.{Option, none, some}
-use Rattle.term.specs.declared.check.Checked.{Checked}
-use Rattle.term.specs.declared.check.Checked.TheVariants.{Good, Bad}
 use Rattle.term.specs.Word.{pick}
 use Rattle.book.specs.Rule.{good_rule}
 
@@ -20,9 +18,9 @@ rule_of (v ∷ l ∷ []) = none
 rule_of (v ∷ l ∷ r ∷ ws) =
     pick (leb (l + r) (length ws)) (some (record { vars = v; left = take l ws; right = take r (drop l ws) }, drop (l + r) ws)) none
 
-abbrev pub judged : Bool → Checked → ℕ → Checked
+abbrev pub judged : Bool → Result (Unit {0}) ℕ → ℕ → Result (Unit {0}) ℕ
 judged true rest number = rest
-judged false rest number = Bad number
+judged false rest number = Err number
 
 -- so many rules from this number on, and nothing after them
 abbrev pub good_next : Option (Rule × List ℕ) → Bool
@@ -33,15 +31,15 @@ abbrev pub after_next : Option (Rule × List ℕ) → List ℕ
 after_next none = []
 after_next (some p) = p.1
 
-unfoldable pub judge : ℕ → ℕ → List ℕ → Checked
-judge number zero [] = Good
-judge number zero (w ∷ ws) = Bad number
+unfoldable pub judge : ℕ → ℕ → List ℕ → Result (Unit {0}) ℕ
+judge number zero [] = Ok tt
+judge number zero (w ∷ ws) = Err number
 judge number (suc more) ws = judged (good_next (rule_of ws)) (judge (suc number) more (after_next (rule_of ws))) number
 
 -- over 64 rules is bad at 64, judged first; the empty list is bad at 0
-unfoldable pub check_book : List ℕ → Checked
-check_book [] = Bad 0
-check_book (n ∷ ws) = pick (ltb 64 n) (Bad 64) (judge 0 n ws)
+unfoldable pub check_book : List ℕ → Result (Unit {0}) ℕ
+check_book [] = Err 0
+check_book (n ∷ ws) = pick (ltb 64 n) (Err 64) (judge 0 n ws)
 
 -- ---- a rule by its number
 abbrev pub next_o : Option (Rule × List ℕ) → Option Rule

@@ -1,8 +1,6 @@
 -- Document 01, "The book": what is asked of one rule.
-use Rattle.std.specs.Prelude.{ℕ, zero, suc, Bool, true, false, ◌&&◌, List, [], ◌∷◌, leb, ltb, eqb}
+use Rattle.std.specs.Prelude.{ℕ, zero, suc, Bool, true, false, ◌&&◌, List, [], ◌∷◌, leb, ltb, eqb, is_ok}
 use Rattle.std.proofs.Math.Option.{Option, none, some}
-use Rattle.term.specs.declared.check.Checked.{Checked}
-use Rattle.term.specs.declared.check.Checked.TheVariants.{Good, Bad}
 use Rattle.term.specs.Word.{Head, symbol, abstraction, variable, pattern, pick, side_rank, kind_of, count_of, ident_of}
 use Rattle.term.specs.Row.{Row, nothing, node, Got, read}
 use Rattle.term.specs.Check.{Limits, check}
@@ -11,10 +9,6 @@ use Rattle.term.specs.Renumber.{good_list}
 -- "Each side has 1 to 64 words and nesting at most 16", of any rank
 abbrev pub side_limits : Limits
 side_limits = record { ranks = side_rank; length = 64; nesting = 16 }
-
-abbrev pub is_good : Checked → Bool
-is_good Good = true
-is_good (Bad at) = false
 
 -- ---- the shape of a left side
 -- a variable before the ids of the variables that follow it; none where something else stands there
@@ -85,13 +79,13 @@ shaped ok (some p) = ok p.0
 
 unfoldable pub good_left : ℕ → List ℕ → Bool
 good_left vars left =
-    is_good (check side_limits left)
+    is_ok (check side_limits left)
     && (shaped root_symbol (read 1 left)
     && (shaped (left_shape 0) (read 1 left)
     && (no_other vars left && (all_occur vars left && one_count left left))))
 
 unfoldable pub good_right : List ℕ → List ℕ → Bool
-good_right left right = is_good (check side_limits right) && (shaped (right_shape 0) (read 1 right) && one_count left right)
+good_right left right = is_ok (check side_limits right) && (shaped (right_shape 0) (read 1 right) && one_count left right)
 
 unfoldable pub good_rule : ℕ → List ℕ → List ℕ → Bool
 good_rule vars left right = leb vars 16 && (good_left vars left && good_right left right)

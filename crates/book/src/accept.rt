@@ -4,20 +4,10 @@ ghost use Rattle.book.specs.Accept.{accept};
 
 use crate::book::check_book;
 use term::answer::Answer;
-use term::check::Checked;
 
-// The book is sound, or the answer that refuses it.
-#[derive(Clone, Copy)]
-pub enum Accepted {
-    Sound,
-    Refused(Answer),
-}
-
-pub fn accept_book(book: &[u32]) -> Accepted
+// Ok where the book is sound, else the answer that refuses it.
+pub fn accept_book(book: &[u32]) -> Result<(), Answer>
     ensures { result ≡ accept book.now }
 {
-    match check_book(book) {
-        Checked::Good => Accepted::Sound,
-        Checked::Bad(at) => Accepted::Refused(Answer::BadBook(at)),
-    }
+    check_book(book).map_err(Answer::BadBook)
 }

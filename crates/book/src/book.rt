@@ -1,11 +1,10 @@
 // A book in memory: its check, and where a rule's sides lie in it.
-ghost use Rattle.std.specs.Prelude.{◌≡◌, drop};
+ghost use Rattle.std.specs.Prelude.{◌≡◌, ◌≤◌, ◌-◌, length, take, drop};
 ghost use Rattle.book.specs.Book.{rule_of, check_book, sound};
 ghost use Rattle.book.specs.Told.Found.{placed, sides_at};
 
 use crate::limits::MOST_RULES_LONG;
 use crate::rule::good_rule;
-use term::check::Checked;
 
 // vars, left length and right length stand before a rule's sides.
 const HEADER: usize = 3;
@@ -19,34 +18,46 @@ pub struct Sides {
     pub end: usize,
 }
 
-#[derive(Clone, Copy)]
-pub enum Found {
-    Rule(Sides),
-    None,
+impl Sides {
+    // The words of the left side, in the book that the rule stands in.
+    pub fn left<'a>(&self, words: &'a [u32]) -> &'a [u32]
+        requires { (self.now.left ≤ self.now.right) × (self.now.right ≤ length words.now) }
+        ensures { result.now ≡ take (self.now.right - self.now.left) (drop self.now.left words.now) }
+    {
+        &words[self.left..self.right]
+    }
+
+    // The words of the right side, in the book that the rule stands in.
+    pub fn right<'a>(&self, words: &'a [u32]) -> &'a [u32]
+        requires { (self.now.right ≤ self.now.end) × (self.now.end ≤ length words.now) }
+        ensures { result.now ≡ take (self.now.end - self.now.right) (drop self.now.right words.now) }
+    {
+        &words[self.right..self.end]
+    }
 }
 
 // The rule that begins at an offset, where it does not run past the words.
-fn sides_from(words: &[u32], at: usize) -> Found
+fn sides_from(words: &[u32], at: usize) -> Option<Sides>
     ensures { result ≡ placed at (rule_of (drop at words.now)) }
 {
     if words.len() <= at {
-        return Found::None;
+        return None;
     }
     let room = words.len() - at;
     if room < HEADER {
-        return Found::None;
+        return None;
     }
     let left_size = words[at + 1] as usize;
     let right_size = words[at + 2] as usize;
     if room - HEADER < left_size + right_size {
-        return Found::None;
+        return None;
     }
     let left = at + HEADER;
     let right = left + left_size;
-    Found::Rule(Sides {
+    Some(Sides {
         vars: words[at],
-        left: left,
-        right: right,
+        left,
+        right,
         end: right + right_size,
     })
 }
@@ -55,65 +66,49 @@ fn sides_from(words: &[u32], at: usize) -> Found
 pub fn sound_rule(words: &[u32]) -> bool
     ensures { result ≡ sound words.now }
 {
-    let Found::Rule(sides) = sides_from(words, 0) else {
+    let Some(sides) = sides_from(words, 0) else {
         return false;
     };
-    let left = sides.left;
-    let right = sides.right;
-    let end = sides.end;
-    good_rule(sides.vars, &words[left..right], &words[right..end])
+    good_rule(sides.vars, sides.left(words), sides.right(words))
 }
 
-// Good where the words are a book, else the first bad rule.
-pub fn check_book(words: &[u32]) -> Checked
+// Ok where the words are a book, else the first bad rule.
+pub fn check_book(words: &[u32]) -> Result<(), usize>
     ensures { result ≡ check_book words.now }
 {
-    if words.len() == 0 {
-        return Checked::Bad(0);
+    if words.is_empty() {
+        return Err(0);
     }
     let rules = words[0] as usize;
     if MOST_RULES_LONG < rules {
-        return Checked::Bad(MOST_RULES_LONG);
+        return Err(MOST_RULES_LONG);
     }
     let mut at: usize = 1;
-    let mut number: usize = 0;
-    while number < rules {
-        let Found::Rule(sides) = sides_from(words, at) else {
-            return Checked::Bad(number);
+    for number in 0..rules {
+        let Some(sides) = sides_from(words, at) else {
+            return Err(number);
         };
-        let left = sides.left;
-        let right = sides.right;
-        let end = sides.end;
-        if !good_rule(sides.vars, &words[left..right], &words[right..end]) {
-            return Checked::Bad(number);
+        if !good_rule(sides.vars, sides.left(words), sides.right(words)) {
+            return Err(number);
         }
-        at = end;
-        number += 1;
+        at = sides.end;
     }
     if at < words.len() {
-        return Checked::Bad(number);
+        return Err(rules);
     }
-    Checked::Good
+    Ok(())
 }
 
 // Where the sides of the rule of this number lie.
-pub fn find_rule(words: &[u32], number: u32) -> Found
+pub fn find_rule(words: &[u32], number: u32) -> Option<Sides>
     ensures { result ≡ sides_at words.now number }
 {
-    if words.len() == 0 {
-        return Found::None;
-    }
-    if words[0] <= number {
-        return Found::None;
+    if words.is_empty() || words[0] <= number {
+        return None;
     }
     let mut at: usize = 1;
-    let mut before = number;
-    while before != 0 {
-        let Found::Rule(sides) = sides_from(words, at) else {
-            return Found::None;
-        };
-        at = sides.end;
-        before = before - 1;
+    for _ in 0..number {
+        at = sides_from(words, at)?.end;
     }
     sides_from(words, at)
 }

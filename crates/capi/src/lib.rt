@@ -57,8 +57,7 @@ pub fn rosenduch_match_rule(
 {
     let found = operations::match_rule(book, rule, term, bodies, lengths);
     *aside = found.aside;
-    let answer = found.answer;
-    say(answer, at)
+    say(found.answer, at)
 }
 
 // Builds a rule's left side from bodies.
@@ -82,8 +81,7 @@ pub fn rosenduch_compile(book: &[u32], out: &mut [u32], words: &mut u32, at: &mu
 {
     let compiled = operations::compile(book, out);
     *words = compiled.words;
-    let answer = compiled.answer;
-    say(answer, at)
+    say(compiled.answer, at)
 }
 
 // Matches a term by a tree, with the rule that it names, the number of arguments set aside and the nodes visited.
@@ -104,8 +102,7 @@ pub fn rosenduch_match_tree(
     *rule = found.rule;
     *aside = found.aside;
     *visits = found.visits;
-    let answer = found.answer;
-    say(answer, at)
+    say(found.answer, at)
 }
 
 // Rewrites a term at its root, with the nodes visited.
@@ -122,8 +119,7 @@ pub fn rosenduch_rewrite_root(
 {
     let rewritten = operations::rewrite_root(book, tree, term, out);
     *visits = rewritten.visits;
-    let answer = rewritten.answer;
-    say(answer, at)
+    say(rewritten.answer, at)
 }
 
 // Simplifies a term, with the steps made and the nodes visited.
@@ -143,8 +139,7 @@ pub fn rosenduch_simplify(
     let done = operations::simplify(book, tree, term, budget, out);
     *steps = done.steps;
     *visits = done.visits;
-    let answer = done.answer;
-    say(answer, at)
+    say(done.answer, at)
 }
 
 // Reads the text of a book.

@@ -6,11 +6,10 @@ use Prim.Native.Nat.{ℕ, ◌+◌, ◌*◌, ◌≤◌, ◌<◌}
 use native.Mathlib.Omega.{arith}
 use lib.ListN.{length, set}
 use borrow.Author.Tests.{ne_eqb}
-use Rattle.term.specs.declared.renumber.Passed.{Passed}
-use Rattle.term.specs.declared.renumber.Passed.TheVariants.{Done, Stuck}
+use Rattle.std.specs.Prelude.{Option, Some, None}
 use Rattle.compiler.specs.Told.Tables.{new_head, is_head_word, count_heads}
 use Rattle.compiler.specs.Told.Stands.{Stands}
-use Rattle.compiler.specs.Told.NodeTold.{left_in_rows, CasesReady, HeadOfCase, case_tree, CaseTold, CasesTold}
+use Rattle.compiler.specs.Told.NodeTold.{left_in_rows, CasesReady, case_tree, CaseTold, CasesTold}
 use Rattle.compiler.proofs.CasesLaid.{cases_end, cases_skip, cases_stuck, cases_next}
 use Rattle.compiler.proofs.ToldCases.{cases_for, SwitchLeft, none_case, one_more_lem, cases_told}
 use Rattle.compiler.proofs.Entered.{count_most}
@@ -24,7 +23,7 @@ pub record CasesSoFar (fixed nums marks : List ℕ) (limit count slot at n : ℕ
   pub high : a ≤ limit + 5000
   pub within : r ≤ 64
   pub heads_end : to ≤ slot + 2 * r
-  pub tells : (book last : List ℕ) (x : Passed) → SwitchLeft book fixed nums marks limit count n r to a now-out last x → SwitchLeft book fixed nums marks limit count n 0 slot at out last x
+  pub tells : (book last : List ℕ) (x : Option ℕ) → SwitchLeft book fixed nums marks limit count n r to a now-out last x → SwitchLeft book fixed nums marks limit count n 0 slot at out last x
 
 module _ (fixed nums marks : List ℕ) (limit count slot at m n : ℕ) (out : List ℕ) (t : CasesReady fixed nums marks limit count at m n × (slot + 1 + 2 * count_heads fixed nums marks n ≡ at)) where
   pub place_low : n < 4096
@@ -35,9 +34,6 @@ module _ (fixed nums marks : List ℕ) (limit count slot at m n : ℕ) (out : Li
       record { nums_same = refl; marks_same = refl; size = refl; low = omega arith; high = t.0.within.1; within = omega arith; heads_end = omega arith; tells = λ book last x told. told }
 
   module _ (nums₂ marks₂ now-out : List ℕ) (to a r : ℕ) (f : CasesSoFar fixed nums marks limit count slot at n out nums₂ marks₂ now-out to a r) where
-    pub sizes_are : (length fixed ≡ 8256) × (length nums₂ ≡ 4096) × (length marks₂ ≡ 12352)
-    sizes_are = (t.0.sizes.0, ap length f.nums_same ∙ t.0.sizes.1, ap length f.marks_same ∙ t.0.sizes.2)
-
     pub to_small : to + 2 ≤ 25000
     to_small = omega (arith, f.heads_end, f.within, t.1, t.0.within.0, t.0.within.1)
 
@@ -84,19 +80,16 @@ module _ (fixed nums marks : List ℕ) (limit count slot at m n : ℕ) (out : Li
         head : is_head_word w ≡ true
         head = rw (ne_eqb w 33554432 new)
 
-        pub case_tree_needs : CasesReady fixed nums₂ marks₂ limit count a m n × HeadOfCase fixed nums₂ marks₂ n w
-        case_tree_needs = (ready_here, record { row = r; within = few; is = is; head = head })
-
-        module _ (two three nums₃ marks₃ : List ℕ) (x : Passed) (told : OneCase fixed nums₂ marks₂ limit count a n w two three nums₃ marks₃ x) where
+        module _ (two three nums₃ marks₃ : List ℕ) (x : Option ℕ) (told : OneCase fixed nums₂ marks₂ limit count a n w two three nums₃ marks₃ x) where
           told_entry : (book : List ℕ) → CaseTold book fixed nums marks limit count a n w two three x
           told_entry book = rw (f.nums_same, f.marks_same) at (told.0 book)
 
-          pub so_far_over : x ≡ Stuck → (book : List ℕ) → CasesTold book fixed nums marks limit count slot at n out three Stuck
+          pub so_far_over : x ≡ None → (book : List ℕ) → CasesTold book fixed nums marks limit count slot at n out three None
           so_far_over e book =
-              cases_told book fixed nums marks limit count slot at n out three Stuck t.0.known t.1
-              (f.tells book three Stuck (cases_stuck (Stands book fixed nums marks count) (case_tree book marks n) (cases_for book marks n) (none_case book marks n) (one_more_lem book marks n) (new_head fixed nums marks n) 64 limit r to a now-out few w is_entry head two three three (rw e at (told_entry book))))
+              cases_told book fixed nums marks limit count slot at n out three None t.0.known t.1
+              (f.tells book three None (cases_stuck (Stands book fixed nums marks count) (case_tree book marks n) (cases_for book marks n) (none_case book marks n) (one_more_lem book marks n) (new_head fixed nums marks n) 64 limit r to a now-out few w is_entry head two three three (rw e at (told_entry book))))
 
-          pub so_far_next : (next : ℕ) → x ≡ Done next → (one : List ℕ) → one ≡ set now-out to w → two ≡ set one (to + 1) a → length three ≡ length now-out
+          pub so_far_next : (next : ℕ) → x ≡ Some next → (one : List ℕ) → one ≡ set now-out to w → two ≡ set one (to + 1) a → length three ≡ length now-out
               → CasesSoFar fixed nums marks limit count slot at n out nums₃ marks₃ three (to + 2) next (r + 1)
           so_far_next next e one p q l =
               let k : (nums₃ ≡ nums₂) × (marks₃ ≡ marks₂) × (a ≤ next) × (next ≤ limit + 5000) = rw e at told.1 in
@@ -112,8 +105,8 @@ module _ (fixed nums marks : List ℕ) (limit count slot at m n : ℕ) (out : Li
               }
 
     -- no rows are left
-    pub so_far_end : 64 ≤ r → (done : List ℕ) → done ≡ set now-out to a → AllCases fixed nums marks limit count slot at n out done nums₂ marks₂ (Done a)
+    pub so_far_end : 64 ≤ r → (done : List ℕ) → done ≡ set now-out to a → AllCases fixed nums marks limit count slot at n out done nums₂ marks₂ (Some a)
     so_far_end h done e = (
-      λ book. cases_told book fixed nums marks limit count slot at n out done (Done a) t.0.known t.1 (f.tells book done (Done a) (cases_end (Stands book fixed nums marks count) (case_tree book marks n) (cases_for book marks n) (none_case book marks n) (one_more_lem book marks n) (new_head fixed nums marks n) 64 limit r to a now-out h done e)),
+      λ book. cases_told book fixed nums marks limit count slot at n out done (Some a) t.0.known t.1 (f.tells book done (Some a) (cases_end (Stands book fixed nums marks count) (case_tree book marks n) (cases_for book marks n) (none_case book marks n) (one_more_lem book marks n) (new_head fixed nums marks n) 64 limit r to a now-out h done e)),
       (f.nums_same, f.marks_same, f.low, f.high),
     )

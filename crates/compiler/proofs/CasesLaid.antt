@@ -6,8 +6,7 @@ use Prim.Native.Nat.{ℕ, zero, suc, ◌+◌, ◌-◌, ◌*◌, ◌≤◌, ◌<�
 use native.Mathlib.Omega.{arith}
 use lib.ListN.{length, set, length-append}
 use lib.Seq.{sets}
-use Rattle.term.specs.declared.renumber.Passed.{Passed}
-use Rattle.term.specs.declared.renumber.Passed.TheVariants.{Done, Stuck}
+use Rattle.std.specs.Prelude.{Option, Some, None}
 use Rattle.term.specs.Word.{Head, word, pick}
 use Rattle.term.proofs.Laws.{never}
 use Rattle.tree.specs.Tree.{Tree, Cases, NoCase, Case}
@@ -63,11 +62,11 @@ many_heads new (suc more) r = rw (many_heads new more (suc r)) (go (is_head_word
     go false = omega arith
 
 -- ---- the cases of the heads from number r on, of so many
-unfoldable pub CasesLeft : (OnPath → Type 0) → (OnPath → List Head → Cases) → (ℕ → ℕ) → ℕ → ℕ → ℕ → ℕ → ℕ → List ℕ → List ℕ → Passed → Type 0
-CasesLeft stands cases new all limit r to a out done (Done b) =
+unfoldable pub CasesLeft : (OnPath → Type 0) → (OnPath → List Head → Cases) → (ℕ → ℕ) → ℕ → ℕ → ℕ → ℕ → ℕ → List ℕ → List ℕ → Option ℕ → Type 0
+CasesLeft stands cases new all limit r to a out done (Some b) =
     (path : OnPath) → stands path → (hs : List Head) → head_words hs ≡ heads_from new r (all - r) → InTables hs → to + 1 + 2 * length hs ≤ a
     → (b ≡ a + long_cases (cases path hs)) × (done ≡ sets (sets out to (case_heads a (cases path hs) ++ (b ∷ []))) a (layout_cases a (cases path hs)))
-CasesLeft stands cases new all limit r to a out done Stuck =
+CasesLeft stands cases new all limit r to a out done None =
     (path : OnPath) → stands path → (hs : List Head) → head_words hs ≡ heads_from new r (all - r) → InTables hs → to + 1 + 2 * length hs ≤ a → limit < a + long_cases (cases path hs)
 
 pub words_none : head_words [] ≡ []
@@ -93,7 +92,7 @@ module _ (stands : OnPath → Type 0) (tree : OnPath → Head → Tree) (cases :
   count_cases path (h ∷ hs) = ap case_count (one_more_lem path h hs) ∙ count_case h (tree path h) (cases path hs) ∙ ap suc (count_cases path hs)
 
   -- no rows are left: the default's address follows
-  pub cases_end : all ≤ r → (done : List ℕ) → done ≡ set out to a → CasesLeft stands cases new all limit r to a out done (Done a)
+  pub cases_end : all ≤ r → (done : List ℕ) → done ≡ set out to a → CasesLeft stands cases new all limit r to a out done (Some a)
   unfolding CasesLeft
   cases_end h done e path s hs q t l = ended hs (q ∙ ap (heads_from new r) z ∙ heads_end new r)
     where
@@ -112,11 +111,11 @@ module _ (stands : OnPath → Type 0) (tree : OnPath → Head → Tree) (cases :
       ap (heads_from new r) z ∙ heads_skip new r (all - (r + 1)) e ∙ ap (λ k. heads_from new k (all - (r + 1))) (sym y)
 
   -- a row without a new head
-  pub cases_skip : r < all → is_head_word (new r) ≡ false → (done : List ℕ) (x : Passed) → CasesLeft stands cases new all limit (r + 1) to a out done x
+  pub cases_skip : r < all → is_head_word (new r) ≡ false → (done : List ℕ) (x : Option ℕ) → CasesLeft stands cases new all limit (r + 1) to a out done x
       → CasesLeft stands cases new all limit r to a out done x
   unfolding CasesLeft
-  cases_skip h e done (Done b) told = λ path s hs q t l. told path s hs (q ∙ heads_on h e) t l
-  cases_skip h e done Stuck told = λ path s hs q t l. told path s hs (q ∙ heads_on h e) t l
+  cases_skip h e done (Some b) told = λ path s hs q t l. told path s hs (q ∙ heads_on h e) t l
+  cases_skip h e done None told = λ path s hs q t l. told path s hs (q ∙ heads_on h e) t l
 
   -- the heads from a row with a new head on: it, and those after it
   record HeadsAre (hs : List Head) : Type 0 where
@@ -143,7 +142,7 @@ module _ (stands : OnPath → Type 0) (tree : OnPath → Head → Tree) (cases :
     split_heads hs q = heads_are few (ap is_head_word (sym is) ∙ head) hs q
 
     -- its tree is over the limit
-    pub cases_stuck : (two three done : List ℕ) → OneTold stands tree limit a w two three Stuck → CasesLeft stands cases new all limit r to a out done Stuck
+    pub cases_stuck : (two three done : List ℕ) → OneTold stands tree limit a w two three None → CasesLeft stands cases new all limit r to a out done None
     unfolding OneTold CasesLeft
     cases_stuck two three done told path s hs q t l = over (split_heads hs q) t
       where
@@ -153,7 +152,7 @@ module _ (stands : OnPath → Type 0) (tree : OnPath → Head → Tree) (cases :
             rw (x.are, one_more_lem path x.head x.later, (one_case a x.head (tree path x.head) (cases path x.later)).0)
             (omega (arith, told path s x.head (x.here ∙ sym is) i.0))
 
-    module _ (next : ℕ) (one two three : List ℕ) (first : one ≡ set out to w) (second : two ≡ set one (to + 1) a) (told : OneTold stands tree limit a w two three (Done next)) where
+    module _ (next : ℕ) (one two three : List ℕ) (first : one ≡ set out to w) (second : two ≡ set one (to + 1) a) (told : OneTold stands tree limit a w two three (Some next)) where
       -- its tree is written
       record Written (path : OnPath) (hs : List Head) : Type 0 where
         x : HeadsAre hs
@@ -172,16 +171,16 @@ module _ (stands : OnPath → Type 0) (tree : OnPath → Head → Tree) (cases :
           record { x = x; good = i.1; split = ap (cases path) x.are ∙ one_more_lem path x.head x.later; fits = ap length x.are; ends = y.0; wrote = y.1 }
 
       -- the other cases stand after it
-      pub cases_next : (done : List ℕ) (v : Passed) → CasesLeft stands cases new all limit (r + 1) (to + 2) next three done v → CasesLeft stands cases new all limit r to a out done v
+      pub cases_next : (done : List ℕ) (v : Option ℕ) → CasesLeft stands cases new all limit (r + 1) (to + 2) next three done v → CasesLeft stands cases new all limit r to a out done v
       unfolding CasesLeft
-      cases_next done Stuck after = λ path s hs q t l. over path hs (written path s hs q t) (λ y i k. after path s y.later y.rest i k) l
+      cases_next done None after = λ path s hs q t l. over path hs (written path s hs q t) (λ y i k. after path s y.later y.rest i k) l
         where
           over : (path : OnPath) (hs : List Head) (y : Written path hs) → ((x : HeadsAre hs) → InTables x.later → to + 2 + 1 + 2 * length x.later ≤ next → limit < next + long_cases (cases path x.later))
               → to + 1 + 2 * length hs ≤ a → limit < a + long_cases (cases path hs)
           over path hs y after l =
               rw (y.split, (one_case a y.x.head (tree path y.x.head) (cases path y.x.later)).0)
               (omega (arith, y.ends, after y.x y.good (omega (arith, y.ends, y.fits, l))))
-      cases_next done (Done b) after = λ path s hs q t l. whole path hs (written path s hs q t) (λ y i k. after path s y.later y.rest i k) l
+      cases_next done (Some b) after = λ path s hs q t l. whole path hs (written path s hs q t) (λ y i k. after path s y.later y.rest i k) l
         where
           whole : (path : OnPath) (hs : List Head) (y : Written path hs)
               → ((x : HeadsAre hs) → InTables x.later → to + 2 + 1 + 2 * length x.later ≤ next → (b ≡ next + long_cases (cases path x.later))
@@ -207,9 +206,9 @@ whole : (new : ℕ → ℕ) (all : ℕ) → heads_from new 0 all ≡ heads_from 
 whole new all = let z : all - 0 ≡ all = omega arith in rw z
 
 -- THE LAW of the cases: from the first number on they are all
-pub all_told : (stands : OnPath → Type 0) (cases : OnPath → List Head → Cases) (new : ℕ → ℕ) (all limit slot at : ℕ) (out done : List ℕ) (v : Passed) (hs : OnPath → List Head)
+pub all_told : (stands : OnPath → Type 0) (cases : OnPath → List Head → Cases) (new : ℕ → ℕ) (all limit slot at : ℕ) (out done : List ℕ) (v : Option ℕ) (hs : OnPath → List Head)
     → ((path : OnPath) → stands path → (head_words (hs path) ≡ heads_from new 0 all) × InTables (hs path) × (slot + 1 + 2 * length (hs path) ≤ at))
     → CasesLeft stands cases new all limit 0 slot at out done v → AllTold stands (λ path. cases path (hs path)) limit slot at out done v
 unfolding CasesLeft AllTold
-all_told stands cases new all limit slot at out done (Done b) hs are told = λ path s. let x = are path s in told path s (hs path) (x.0 ∙ whole new all) x.1 x.2
-all_told stands cases new all limit slot at out done Stuck hs are told = λ path s. let x = are path s in told path s (hs path) (x.0 ∙ whole new all) x.1 x.2
+all_told stands cases new all limit slot at out done (Some b) hs are told = λ path s. let x = are path s in told path s (hs path) (x.0 ∙ whole new all) x.1 x.2
+all_told stands cases new all limit slot at out done None hs are told = λ path s. let x = are path s in told path s (hs path) (x.0 ∙ whole new all) x.1 x.2

@@ -7,13 +7,12 @@ use native.Mathlib.Omega.{arith}
 use lib.Dec.{leb}
 use lib.ListN.{length, replicate, length-append, length-replicate}
 use borrow.Author.Tests.{leb-true}
-use Rattle.term.specs.declared.check.Checked.TheVariants.{Good}
+use Rattle.std.specs.Prelude.{Ok, Result, Err}
+use Rattle.term.specs.declared.answer.Answer.{Answer}
 use Rattle.term.specs.declared.answer.Answer.TheVariants.{Done, Short}
 use Rattle.term.specs.Answer.{number_of}
 use Rattle.term.specs.Word.{pick}
 use Rattle.term.proofs.Laws.{never, padded_fits}
-use Rattle.book.specs.declared.accept.Accepted.{Accepted}
-use Rattle.book.specs.declared.accept.Accepted.TheVariants.{Sound, Refused}
 use Rattle.book.specs.Book.{check_book}
 use Rattle.book.specs.Accept.{accept}
 use Rattle.book.proofs.Laws.{accepted_good, refusal_number}
@@ -23,7 +22,7 @@ use Rattle.tree.proofs.Laws.{Lies, tree_words_lem}
 use Rattle.compiler.specs.Compiled.{has_room, compiled_answer, compile_answer, compile_words, compile_length}
 
 pub record TreeMade (room : ℕ) (book : List ℕ) : Type 0 where
-  pub accepted : check_book book ≡ Good
+  pub accepted : check_book book ≡ Ok tt
   pub within : length (tree_words book) ≤ 16384
   pub fits : length (tree_words book) ≤ room
   pub words : compile_words room book ≡ tree_words book ++ replicate (room - length (tree_words book)) 0
@@ -33,9 +32,9 @@ pub done_made : (room : ℕ) (book : List ℕ) → compile_answer room book ≡ 
 unfolding compile_answer compile_words compile_length has_room
 done_made room book e = go (accept book) refl e
   where
-    go : (c : Accepted) → accept book ≡ c → compiled_answer room book c ≡ Done → TreeMade room book
-    go (Refused a) q d = let n : number_of a ≡ 0 = ap number_of d in absurd (omega (arith, refusal_number book a q, n))
-    go Sound q d = had (leb (length (tree_words book)) 16384) refl (leb (length (tree_words book)) room) refl d
+    go : (c : Result (Unit {0}) Answer) → accept book ≡ c → compiled_answer room book c ≡ Done → TreeMade room book
+    go (Err a) q d = let n : number_of a ≡ 0 = ap number_of d in absurd (omega (arith, refusal_number book a q, n))
+    go (Ok _) q d = had (leb (length (tree_words book)) 16384) refl (leb (length (tree_words book)) room) refl d
       where
         had : (a : Bool) → leb (length (tree_words book)) 16384 ≡ a → (b : Bool) → leb (length (tree_words book)) room ≡ b → pick (a && b) Done Short ≡ Done → TreeMade room book
         had true x true y d =

@@ -7,7 +7,7 @@ use mathlib.Core.Option.{Option, none, some}
 use Prim.Native.Nat.{ℕ, ◌+◌, ◌*◌, ◌≤◌, ◌<◌}
 use native.Mathlib.Omega.{arith}
 use lib.ListN.{length, get_or}
-use Rattle.term.specs.declared.check.Checked.TheVariants.{Good}
+use Rattle.std.specs.Prelude.{Ok}
 use Rattle.term.specs.Word.{Head, word, count, count_of}
 use Rattle.term.proofs.Laws.{never, count_word_lem}
 use Rattle.book.specs.Book.{Rule, check_book, rule_at}
@@ -30,7 +30,7 @@ use Rattle.compiler.proofs.EnteredRow.{RowDone, row_without, row_with_lem}
 abbrev pub child_count : Head → ℕ
 child_count h = count h
 
-pub full_rule : (book : List ℕ) → check_book book ≡ Good → (r : ℕ) (rule : Rule) → rule_at book r ≡ some rule → Full (left_in rule)
+pub full_rule : (book : List ℕ) → check_book book ≡ Ok tt → (r : ℕ) (rule : Rule) → rule_at book r ≡ some rule → Full (left_in rule)
 full_rule book accepted r rule q = good_full rule.vars 0 (left_in rule) (accepted_good book accepted r rule q).good
 
 -- a row that is not struck has as many children at the place as the head counts

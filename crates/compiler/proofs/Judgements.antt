@@ -6,13 +6,11 @@ use Prim.Native.Nat.{ℕ, ◌-◌, ◌≤◌}
 use native.Mathlib.Omega.{arith}
 use lib.ListN.{length, replicate}
 use borrow.Author.Tests.{le-leb}
-use Rattle.term.specs.declared.check.Checked.{Checked}
-use Rattle.term.specs.declared.check.Checked.TheVariants.{Good, Bad}
+use Rattle.std.specs.Prelude.{Result, Ok, Err}
+use Rattle.term.specs.declared.answer.Answer.{Answer}
 use Rattle.term.specs.declared.answer.Answer.TheVariants.{Done, BadBook}
 use Rattle.term.specs.Answer.{number_of}
 use Rattle.term.proofs.Laws.{padded_fits}
-use Rattle.book.specs.declared.accept.Accepted.{Accepted}
-use Rattle.book.specs.declared.accept.Accepted.TheVariants.{Sound, Refused}
 use Rattle.book.specs.Book.{check_book}
 use Rattle.book.specs.Accept.{judged, accept}
 use Rattle.book.proofs.Laws.{good_accepted, bad_refused}
@@ -20,23 +18,23 @@ use Rattle.tree.specs.Layout.{tree_words}
 use Rattle.compiler.specs.Compiled.{has_room, compiled_answer, compiled_words, compile_answer, compile_words}
 
 module _ (room : ℕ) (book : List ℕ) where
-  asked : (c : Accepted) → accept book ≡ c → compile_answer room book ≡ compiled_answer room book c
+  asked : (c : Result (Unit {0}) Answer) → accept book ≡ c → compile_answer room book ≡ compiled_answer room book c
   unfolding compile_answer
   asked c e = ap (compiled_answer room book) e
 
   pub compile_answer_lem : compile_answer room book ≡ compiled_answer room book (judged (check_book book))
   compile_answer_lem = go (check_book book) refl
     where
-      go : (c : Checked) → check_book book ≡ c → compile_answer room book ≡ compiled_answer room book (judged c)
-      go Good e = asked Sound (good_accepted book e)
-      go (Bad at) e = asked (Refused (BadBook at)) (bad_refused book at e)
+      go : (c : Result (Unit {0}) ℕ) → check_book book ≡ c → compile_answer room book ≡ compiled_answer room book (judged c)
+      go (Ok _) e = asked (Ok tt) (good_accepted book e)
+      go (Err at) e = asked (Err (BadBook at)) (bad_refused book at e)
 
-  pub compile_bad_book : (at : ℕ) → check_book book ≡ Bad at → compile_answer room book ≡ BadBook at
+  pub compile_bad_book : (at : ℕ) → check_book book ≡ Err at → compile_answer room book ≡ BadBook at
   unfolding compile_answer
   compile_bad_book at e = rw (bad_refused book at e)
 
   -- a tree within its size and with room is written
-  pub compile_writes : check_book book ≡ Good → length (tree_words book) ≤ 16384 → length (tree_words book) ≤ room
+  pub compile_writes : check_book book ≡ Ok tt → length (tree_words book) ≤ 16384 → length (tree_words book) ≤ room
       → (compile_answer room book ≡ Done) × (compile_words room book ≡ tree_words book ++ replicate (room - length (tree_words book)) 0)
   unfolding compile_answer compile_words has_room
   compile_writes g s h =
@@ -47,10 +45,10 @@ module _ (room : ℕ) (book : List ℕ) where
   unfolding compile_answer compile_words
   compile_zeros h = go (accept book) h
     where
-      go : (c : Accepted) → 10 ≤ number_of (compiled_answer room book c) → compiled_words room book c ≡ replicate room 0
-      go (Refused a) h = refl
-      go Sound h = had (has_room room (tree_words book)) refl h
+      go : (c : Result (Unit {0}) Answer) → 10 ≤ number_of (compiled_answer room book c) → compiled_words room book c ≡ replicate room 0
+      go (Err a) h = refl
+      go (Ok _) h = had (has_room room (tree_words book)) refl h
         where
-          had : (b : Bool) → has_room room (tree_words book) ≡ b → 10 ≤ number_of (compiled_answer room book Sound) → compiled_words room book Sound ≡ replicate room 0
+          had : (b : Bool) → has_room room (tree_words book) ≡ b → 10 ≤ number_of (compiled_answer room book (Ok tt)) → compiled_words room book (Ok tt) ≡ replicate room 0
           had true e h = let k : 10 ≤ 0 = rw e at h in absurd (omega (arith, k))
           had false e h = rw e

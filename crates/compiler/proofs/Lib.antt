@@ -1,5 +1,6 @@
 -- What a crate above may cite is Laws.
 mod Sweeps
+mod Searches
 mod TableLaws
 mod NumberLaws
 mod WordLaws
@@ -31,6 +32,7 @@ mod SpotOccurrences
 mod SpotWords
 mod LeftConstraints
 mod SameConstraints
+mod Finds
 mod FirstConstraints
 mod ConstraintRows
 mod HeldStands
@@ -58,4 +60,5 @@ mod RootLoops
 mod RootTrees
 mod CompiledDone
 mod Judgements
+mod KindLaws
 pub mod Laws

@@ -1,33 +1,25 @@
 -- Loading a book, way by way: each row is written where no other row stands, so the rows that were written stay.
-use mathlib.Core.Path.{◌≡◌, refl, sym, ap, ◌∙◌}
+use mathlib.Core.Path.{◌≡◌, refl, sym, ◌∙◌}
 use mathlib.Core.Bool.{Bool, true, false}
 use mathlib.Core.List.{List}
 use mathlib.Core.Option.{some}
 use Prim.Native.Nat.{ℕ, ◌+◌, ◌-◌, ◌*◌, ◌≤◌, ◌<◌}
 use native.Mathlib.Omega.{arith}
-use lib.Dec.{eqb, ltb}
-use lib.ListN.{length, get_or, set, take, drop}
+use lib.Dec.{eqb}
+use lib.ListN.{length, get_or, set, take, drop, length-set}
+use borrow.Author.Count.{below_more}
 use lib.Seq.{get_or-set_same, get_or-set_other}
-use borrow.Author.Tests.{ltb-true, ltb-false, lt-ltb, le-ltb, eqb-true, eqb-false, eq-eqb, ne_eqb}
-use Rattle.term.specs.Word.{pick, kind_of}
-use Rattle.term.specs.Part.{part_end}
-use Rattle.term.proofs.Laws.{never, suffix}
+use borrow.Author.Tests.{lt-ltb, le-ltb, eqb-true, eqb-false}
+use Rattle.term.proofs.Laws.{never}
 use Rattle.book.specs.declared.book.Sides.{Sides}
-use Rattle.book.specs.declared.book.Found.TheVariants as found
+use Rattle.std.specs.Prelude.{Some, None}
 use Rattle.book.specs.Book.{Rule, rule_at}
 use Rattle.book.specs.Told.Found.{sides_at}
 use Rattle.book.proofs.Laws.{SidesAre, sides_rule, sides_none}
-use Rattle.compiler.specs.Told.Tables.{many_at, Changed}
-use Rattle.compiler.specs.Told.Loaded.{reaches_to, depth_of, word_or, depth_or, filled, RowAt, OthersKept, RowLoaded, RuleLoaded, RulesAt, root_number, root_numbered, row_mark, absent_marked}
-use Rattle.compiler.proofs.Sweeps.{Sweeping, sweep_set}
+use Rattle.compiler.specs.Told.Tables.{many_at}
+use Rattle.compiler.specs.Told.Loaded.{reaches_to, depth_of, word_or, depth_or, RowAt, OthersKept, RowLoaded, RuleLoaded, RulesAt, root_number, root_numbered, row_mark, absent_marked}
 
 -- ---- one word of a left side
-pub reach_no : (ws : List ℕ) (o a : ℕ) → (kind_of (get_or ws a 0) ≡ 1 → ⊥) → false ≡ reaches_to ws o a
-reach_no ws o a e = rw (ne_eqb (kind_of (get_or ws a 0)) 1 e)
-
-pub reach_is : (ws : List ℕ) (o a n : ℕ) → kind_of (get_or ws a 0) ≡ 1 → n ≡ part_end (take (length ws - a) (drop a ws)) → ltb (o - a) n ≡ reaches_to ws o a
-reach_is ws o a n e q = rw (eq-eqb (kind_of (get_or ws a 0)) 1 e, q, suffix a ws)
-
 pub depth_is : (ws : List ℕ) (o d : ℕ) → d ≡ many_at (reaches_to ws o) 0 o → d ≡ depth_of ws o
 unfolding depth_of
 depth_is ws o d e = e
@@ -48,53 +40,40 @@ pub depth_in : (ws : List ℕ) (o d : ℕ) → o < length ws → d ≡ depth_of 
 unfolding depth_or
 depth_in ws o d h e = rw (lt-ltb o (length ws) h) e
 
--- ---- 64 words of a table
-pub before_filled : (from : ℕ) (f : ℕ → ℕ) (k x : ℕ) → k < from → filled from f k x ≡ x
-before_filled from f k x h = rw (lt-ltb k from h)
-
-pub after_filled : (from : ℕ) (f : ℕ → ℕ) (k x : ℕ) → from + 64 ≤ k → filled from f k x ≡ x
-after_filled from f k x h = rw (le-ltb k from (omega arith), le-ltb k (from + 64) h)
-
-pub in_filled : (from : ℕ) (f : ℕ → ℕ) (k o x : ℕ) → k ≡ from + o → o < 64 → filled from f k x ≡ f o
-in_filled from f k o x e h =
-    let z : k - from ≡ o = omega arith in
-    rw (le-ltb k from (omega arith), lt-ltb k (from + 64) (omega arith)) (ap f z)
-
-out_filled : (from : ℕ) (f : ℕ → ℕ) (k x : ℕ) → (from ≤ k → k < from + 64 → ⊥) → filled from f k x ≡ x
-out_filled from f k x n = go (ltb k from) refl (ltb k (from + 64)) refl
-  where
-    go : (a : Bool) → ltb k from ≡ a → (b : Bool) → ltb k (from + 64) ≡ b → pick a x (pick b (f (k - from)) x) ≡ x
-    go true p b q = refl
-    go false p true q = absurd (n (ltb-false k from p) (ltb-true k (from + 64) q))
-    go false p false q = refl
-
-pub fill_step : (from : ℕ) (f : ℕ → ℕ) (before after : List ℕ) (o v : ℕ) → o < 64 → Sweeping (filled from f) before after (from + o) → from + o < length after → v ≡ f o
-    → Sweeping (filled from f) before (set after (from + o) v) (from + (o + 1))
-fill_step from f before after o v l s h e =
-    let z : from + o + 1 ≡ from + (o + 1) = omega arith in
-    rw z at (sweep_set (filled from f) before after (from + o) v s h (e ∙ sym (in_filled from f (from + o) o (get_or before (from + o) 0) refl l)))
-
 -- ---- a row
-module _ (ws : List ℕ) (vars r : ℕ) (before a b : List ℕ) (l : r < 64) (long : length b ≡ 8256)
-    (x : Changed (filled (r * 64) (word_or ws)) before a) (y : Changed (filled (4096 + r * 64) (depth_or ws)) a b) where
-  elsewhere : (k : ℕ) → (k ≡ 8192 + r → ⊥) → get_or (set b (8192 + r) vars) k 0 ≡ filled (4096 + r * 64) (depth_or ws) k (filled (r * 64) (word_or ws) k (get_or before k 0))
-  unfolding Changed
-  elsewhere k n = get_or-set_other b (8192 + r) k vars 0 n ∙ y k ∙ ap (filled (4096 + r * 64) (depth_or ws) k) (x k)
+-- the words below an offset and the abstractions passed there stand at their spots, and what is elsewhere is as it came
+pub record RowSoFar (ws : List ℕ) (r : ℕ) (before now : List ℕ) (n : ℕ) : Type 0 where
+  pub words : (o : ℕ) → o < n → get_or now (r * 64 + o) 0 ≡ word_or ws o
+  pub depths : (o : ℕ) → o < n → get_or now (4096 + (r * 64 + o)) 0 ≡ depth_or ws o
+  pub others : (k : ℕ) → (r * 64 ≤ k → k < r * 64 + 64 → ⊥) → (4096 + r * 64 ≤ k → k < 4096 + r * 64 + 64 → ⊥) → get_or now k 0 ≡ get_or before k 0
+
+pub row_start : (ws : List ℕ) (r : ℕ) (before : List ℕ) → RowSoFar ws r before before 0
+row_start ws r before = record { words = λ o h. absurd (omega arith); depths = λ o h. absurd (omega arith); others = λ k p q. refl }
+
+module _ (ws : List ℕ) (r n v d : ℕ) (before now : List ℕ) (s : RowSoFar ws r before now n) (l : r < 64) (few : n < 64) (long : length now ≡ 8256) (is_word : v ≡ word_or ws n) (is_depth : d ≡ depth_or ws n) where
+  spot_kept : (k : ℕ) → (k ≡ r * 64 + n → ⊥) → (k ≡ 4096 + (r * 64 + n) → ⊥) → get_or (set (set now (r * 64 + n) v) (4096 + (r * 64 + n)) d) k 0 ≡ get_or now k 0
+  spot_kept k p q = get_or-set_other (set now (r * 64 + n) v) (4096 + (r * 64 + n)) k d 0 q ∙ get_or-set_other now (r * 64 + n) k v 0 p
+
+  word_set : get_or (set (set now (r * 64 + n) v) (4096 + (r * 64 + n)) d) (r * 64 + n) 0 ≡ word_or ws n
+  word_set = get_or-set_other (set now (r * 64 + n) v) (4096 + (r * 64 + n)) (r * 64 + n) d 0 (λ e. omega (arith, e)) ∙ get_or-set_same now (r * 64 + n) v 0 (omega (arith, long, l, few)) ∙ is_word
+
+  depth_set : get_or (set (set now (r * 64 + n) v) (4096 + (r * 64 + n)) d) (4096 + (r * 64 + n)) 0 ≡ depth_or ws n
+  depth_set = get_or-set_same (set now (r * 64 + n) v) (4096 + (r * 64 + n)) d 0 (omega (arith, long, l, few, length-set now (r * 64 + n) v)) ∙ is_depth
+
+  pub row_next : RowSoFar ws r before (set (set now (r * 64 + n) v) (4096 + (r * 64 + n)) d) (n + 1)
+  row_next =
+      record {
+        words = below_more _ n (λ o h. spot_kept (r * 64 + o) (λ e. omega (arith, e, h)) (λ e. omega (arith, e, h)) ∙ s.words o h) word_set;
+        depths = below_more _ n (λ o h. spot_kept (4096 + (r * 64 + o)) (λ e. omega (arith, e, h, l, few)) (λ e. omega (arith, e, h)) ∙ s.depths o h) depth_set;
+        others = λ k p q. spot_kept k (λ e. p (omega (arith, e)) (omega (arith, e, few))) (λ e. q (omega (arith, e)) (omega (arith, e, few))) ∙ s.others k p q;
+      }
+
+module _ (ws : List ℕ) (vars r n : ℕ) (before b : List ℕ) (s : RowSoFar ws r before b n) (l : r < 64) (all : 64 ≤ n) (long : length b ≡ 8256) where
+  stays : (k : ℕ) → (k ≡ 8192 + r → ⊥) → get_or (set b (8192 + r) vars) k 0 ≡ get_or b k 0
+  stays k e = get_or-set_other b (8192 + r) k vars 0 e
 
   kept_at : (k : ℕ) → (k ≡ 8192 + r → ⊥) → (r * 64 ≤ k → k < r * 64 + 64 → ⊥) → (4096 + r * 64 ≤ k → k < 4096 + r * 64 + 64 → ⊥) → get_or (set b (8192 + r) vars) k 0 ≡ get_or before k 0
-  kept_at k n p q =
-      elsewhere k n ∙ out_filled (4096 + r * 64) (depth_or ws) k (filled (r * 64) (word_or ws) k (get_or before k 0)) q ∙ out_filled (r * 64) (word_or ws) k (get_or before k 0) p
-
-  word_here : (o : ℕ) → o < 64 → get_or (set b (8192 + r) vars) (r * 64 + o) 0 ≡ word_or ws o
-  word_here o h =
-      elsewhere (r * 64 + o) (λ e. omega (arith, e, h, l))
-      ∙ before_filled (4096 + r * 64) (depth_or ws) (r * 64 + o) (filled (r * 64) (word_or ws) (r * 64 + o) (get_or before (r * 64 + o) 0)) (omega (arith, h))
-      ∙ in_filled (r * 64) (word_or ws) (r * 64 + o) o (get_or before (r * 64 + o) 0) refl h
-
-  depth_here : (o : ℕ) → o < 64 → get_or (set b (8192 + r) vars) (4096 + (r * 64 + o)) 0 ≡ depth_or ws o
-  depth_here o h =
-      elsewhere (4096 + (r * 64 + o)) (λ e. omega (arith, e, h, l))
-      ∙ in_filled (4096 + r * 64) (depth_or ws) (4096 + (r * 64 + o)) o (filled (r * 64) (word_or ws) (4096 + (r * 64 + o)) (get_or before (4096 + (r * 64 + o)) 0)) (omega arith) h
+  kept_at k e p q = stays k e ∙ s.others k p q
 
   row_kept : OthersKept r before (set b (8192 + r) vars)
   row_kept q vs n m ne g =
@@ -107,21 +86,25 @@ module _ (ws : List ℕ) (vars r : ℕ) (before a b : List ℕ) (l : r < 64) (lo
   pub row_loaded : RowLoaded ws vars r before (set b (8192 + r) vars)
   row_loaded =
       record {
-        here = record { words = word_here; depths = depth_here; variables = get_or-set_same b (8192 + r) vars 0 (omega (arith, long, l)) };
+        here = record {
+          words = λ o h. stays (r * 64 + o) (λ e. omega (arith, e, h, l)) ∙ s.words o (omega (arith, h, all));
+          depths = λ o h. stays (4096 + (r * 64 + o)) (λ e. omega (arith, e, h, l)) ∙ s.depths o (omega (arith, h, all));
+          variables = get_or-set_same b (8192 + r) vars 0 (omega (arith, long, l));
+        };
         others = row_kept;
       }
 
 -- ---- a rule
-pub rule_absent : (book : List ℕ) (r : ℕ) (fixed : List ℕ) → sides_at book r ≡ found.None → RuleLoaded book r fixed fixed
+pub rule_absent : (book : List ℕ) (r : ℕ) (fixed : List ℕ) → sides_at book r ≡ None → RuleLoaded book r fixed fixed
 rule_absent book r fixed e =
     record { here = λ rule q. never (let z = sides_none book r e in cc); others = λ q ws vars l n g. g }
 
-pub rule_lies : (book : List ℕ) (r : ℕ) (sides : Sides) → sides_at book r ≡ found.Rule sides → (sides.left ≤ sides.right) × (sides.right ≤ length book)
+pub rule_lies : (book : List ℕ) (r : ℕ) (sides : Sides) → sides_at book r ≡ Some sides → (sides.left ≤ sides.right) × (sides.right ≤ length book)
 rule_lies book r sides e =
     let s = (sides_rule book r sides e).2 in
     (s.left_first, omega (arith, s.right_next, s.within))
 
-pub rule_loaded : (book : List ℕ) (r : ℕ) (sides : Sides) → sides_at book r ≡ found.Rule sides → (before after : List ℕ)
+pub rule_loaded : (book : List ℕ) (r : ℕ) (sides : Sides) → sides_at book r ≡ Some sides → (before after : List ℕ)
     → RowLoaded (take (sides.right - sides.left) (drop sides.left book)) sides.vars r before after → RuleLoaded book r before after
 rule_loaded book r sides e before after l = record { here = λ rule q. here (sides_rule book r sides e) rule q; others = l.others }
   where
@@ -151,8 +134,8 @@ in_absent book k x h = rw (lt-ltb k 64 h)
 pub past_absent : (book : List ℕ) (k x : ℕ) → 64 ≤ k → absent_marked book k x ≡ x
 past_absent book k x h = rw (le-ltb k 64 h)
 
-pub mark_rule : (book : List ℕ) (r : ℕ) (sides : Sides) → sides_at book r ≡ found.Rule sides → 0 ≡ row_mark (rule_at book r)
+pub mark_rule : (book : List ℕ) (r : ℕ) (sides : Sides) → sides_at book r ≡ Some sides → 0 ≡ row_mark (rule_at book r)
 mark_rule book r sides e = rw (sides_rule book r sides e).1
 
-pub mark_none : (book : List ℕ) (r : ℕ) → sides_at book r ≡ found.None → 1 ≡ row_mark (rule_at book r)
+pub mark_none : (book : List ℕ) (r : ℕ) → sides_at book r ≡ None → 1 ≡ row_mark (rule_at book r)
 mark_none book r e = rw (sides_none book r e)

@@ -111,7 +111,7 @@ module _ (fixed nums marks : List ℕ) (limit count at id : ℕ) (t : TestReady 
   first_one : FirstLeft ready.book fixed nums marks count ready.path (first_row marks) (first_row_lem ready.book fixed nums marks count ready.path ready.stands t.first).rule
   first_one = first_test ready.book fixed nums marks count ready.path ready.stands t.first t.none_open (λ e. t.some_left (t.is ∙ e))
 
-  pub test_id : (4160 ≤ id) × (id < 12352)
+  test_id : (4160 ≤ id) × (id < 12352)
   test_id = (omega (arith, t.is, first_one.least), omega (arith, t.is, first_one.most))
 
   module _ (m : ℕ) (own : m ≡ at + 17) where
@@ -266,6 +266,9 @@ module _ (fixed nums marks : List ℕ) (limit count at n : ℕ) (t : SwitchReady
 module _ (fixed nums marks : List ℕ) (limit count at m n w : ℕ) (t : CasesReady fixed nums marks limit count at m n) (of_row : HeadOfCase fixed nums marks n w) where
   pub case_places : count ≤ 4096
   case_places = count_most t.book fixed nums marks count t.path t.stands t.sizes.1
+
+  pub case_place : n < 4096
+  case_place = omega (arith, t.known, case_places)
 
   case_real : m ≡ 0 → ⊥
   case_real e = omega (arith, e, t.older 0)

@@ -32,9 +32,6 @@ pub record Marked (m : ℕ) (before after : List ℕ) : Type 0 where
   pub long : length after ≡ length before
   pub each : (k : ℕ) → MarkedAt m (get_or before k 0) (get_or after k 0)
 
-pub marked_none : (m : ℕ) (l : List ℕ) → Marked m l l
-marked_none m l = record { long = refl; each = λ k. inl refl }
-
 marked_twice : (m x y z : ℕ) → MarkedAt m x y → MarkedAt m y z → MarkedAt m x z
 marked_twice m x y z (inl p) (inl q) = inl (q ∙ p)
 marked_twice m x y z (inl p) (inr q) = inr (sym p ∙ q.0, q.1)

@@ -6,8 +6,7 @@ use Prim.Native.Nat.{ℕ, ◌+◌, ◌*◌, ◌≤◌, ◌<◌}
 use native.Mathlib.Omega.{arith}
 use lib.ListN.{length, set}
 use borrow.Author.Tests.{ne_eqb}
-use Rattle.term.specs.declared.renumber.Passed.{Passed}
-use Rattle.term.specs.declared.renumber.Passed.TheVariants.{Done, Stuck}
+use Rattle.std.specs.Prelude.{Option, Some, None}
 use Rattle.term.specs.Word.{Head}
 use Rattle.tree.specs.Tree.{NoCase, Case}
 use Rattle.tree.specs.Path.{OnPath, start}
@@ -21,12 +20,12 @@ use Rattle.compiler.proofs.RootWords.{root_words_lem, root_tables, root_many, ro
 use Rattle.compiler.proofs.RootRuns.{OneRoot}
 
 -- what the cases tell and keep, their answer being known
-abbrev pub AllRoots : List ℕ → List ℕ → List ℕ → ℕ → ℕ → ℕ → List ℕ → List ℕ → List ℕ → List ℕ → Passed → Type 0
+abbrev pub AllRoots : List ℕ → List ℕ → List ℕ → ℕ → ℕ → ℕ → List ℕ → List ℕ → List ℕ → List ℕ → Option ℕ → Type 0
 AllRoots fixed nums marks limit slot at out done nums-after marks-after x =
     ((book : List ℕ) → RootCasesTold book fixed nums marks limit slot at out done x) × TreeKept nums marks limit at nums-after marks-after x
 
 -- the cases from number k on
-abbrev RootLeft : List ℕ → List ℕ → List ℕ → List ℕ → ℕ → ℕ → ℕ → ℕ → List ℕ → List ℕ → Passed → Type 0
+abbrev RootLeft : List ℕ → List ℕ → List ℕ → List ℕ → ℕ → ℕ → ℕ → ℕ → List ℕ → List ℕ → Option ℕ → Type 0
 RootLeft book fixed nums marks limit k to a out done x = CasesLeft (AtStart book fixed nums marks) (root_cases_for book marks) (root_word fixed marks) 1024 limit k to a out done x
 
 none_case : (book marks : List ℕ) (path : OnPath) → root_cases_for book marks path [] ≡ NoCase
@@ -35,7 +34,7 @@ none_case book marks path = root_cases_none (rows_left book marks 0 64)
 one_more_lem : (book marks : List ℕ) (path : OnPath) (h : Head) (hs : List Head) → root_cases_for book marks path (h ∷ hs) ≡ Case h (root_case_tree book marks path h) (root_cases_for book marks path hs)
 one_more_lem book marks path h hs = root_cases_more (rows_left book marks 0 64) h hs
 
-cases_told : (book fixed nums marks : List ℕ) (limit slot at : ℕ) (out done : List ℕ) (v : Passed) → slot + 1 + 2 * count_roots fixed marks ≡ at
+cases_told : (book fixed nums marks : List ℕ) (limit slot at : ℕ) (out done : List ℕ) (v : Option ℕ) → slot + 1 + 2 * count_roots fixed marks ≡ at
     → RootLeft book fixed nums marks limit 0 slot at out done v → RootCasesTold book fixed nums marks limit slot at out done v
 cases_told book fixed nums marks limit slot at out done v room told =
     all_told (AtStart book fixed nums marks) (root_cases_for book marks) (root_word fixed marks) 1024 limit slot at out done v (λ path. root_heads (rows_left book marks 0 64))
@@ -50,7 +49,7 @@ pub record RootSoFar (fixed nums marks : List ℕ) (limit slot at : ℕ) (out nu
   pub high : a ≤ limit + 5000
   pub within : k ≤ 1024
   pub heads_end : to ≤ slot + 2 * k
-  pub tells : (book last : List ℕ) (x : Passed) → RootLeft book fixed nums marks limit k to a now-out last x → RootLeft book fixed nums marks limit 0 slot at out last x
+  pub tells : (book last : List ℕ) (x : Option ℕ) → RootLeft book fixed nums marks limit k to a now-out last x → RootLeft book fixed nums marks limit 0 slot at out last x
 
 module _ (fixed nums marks : List ℕ) (limit slot at : ℕ) (out : List ℕ) (t : RootCasesReady fixed nums marks limit at × (slot + 1 + 2 * count_roots fixed marks ≡ at)) where
   pub so_far_start : RootSoFar fixed nums marks limit slot at out nums marks out slot at 0
@@ -58,14 +57,8 @@ module _ (fixed nums marks : List ℕ) (limit slot at : ℕ) (out : List ℕ) (t
       record { nums_same = refl; marks_same = refl; size = refl; low = omega arith; high = t.0.room; within = omega arith; heads_end = omega arith; tells = λ book last x told. told }
 
   module _ (nums₂ marks₂ now-out : List ℕ) (to a k : ℕ) (f : RootSoFar fixed nums marks limit slot at out nums₂ marks₂ now-out to a k) where
-    pub sizes_are : (length fixed ≡ 8256) × (length marks₂ ≡ 12352)
-    sizes_are = (t.0.ready.sizes.0, ap length f.marks_same ∙ t.0.ready.sizes.2)
-
     pub to_small : to + 2 ≤ 25000
     to_small = omega (arith, f.heads_end, f.within, t.1, t.0.ready.most, t.0.room)
-
-    pub a_small : a ≤ 25000
-    a_small = omega (arith, f.high, t.0.ready.most)
 
     ready_here : RootCasesReady fixed nums₂ marks₂ limit a
     ready_here = rw (f.nums_same, f.marks_same) (record { ready = t.0.ready; begun = omega (arith, t.0.begun, f.low); room = f.high })
@@ -97,18 +90,18 @@ module _ (fixed nums marks : List ℕ) (limit slot at : ℕ) (out : List ℕ) (t
         pub root_case_needs : RootCasesReady fixed nums₂ marks₂ limit a × RootHead w
         root_case_needs = (ready_here, root_head_lem t.0.ready.book fixed nums marks 1 start t.0.ready.stands k w few is_entry head)
 
-        module _ (two three nums₃ marks₃ : List ℕ) (x : Passed) (told : OneRoot fixed nums₂ marks₂ limit a w two three nums₃ marks₃ x) where
+        module _ (two three nums₃ marks₃ : List ℕ) (x : Option ℕ) (told : OneRoot fixed nums₂ marks₂ limit a w two three nums₃ marks₃ x) where
           told_entry : (book : List ℕ) → RootCaseTold book fixed nums marks limit a w two three x
           told_entry book = rw (f.nums_same, f.marks_same) at (told.0 book)
 
-          pub so_far_over : x ≡ Stuck → (book : List ℕ) → RootCasesTold book fixed nums marks limit slot at out three Stuck
+          pub so_far_over : x ≡ None → (book : List ℕ) → RootCasesTold book fixed nums marks limit slot at out three None
           so_far_over e book =
-              cases_told book fixed nums marks limit slot at out three Stuck t.1
-              (f.tells book three Stuck
+              cases_told book fixed nums marks limit slot at out three None t.1
+              (f.tells book three None
               (cases_stuck (AtStart book fixed nums marks) (root_case_tree book marks) (root_cases_for book marks) (none_case book marks) (one_more_lem book marks) (root_word fixed marks) 1024 limit k to a now-out few w is_entry head
               two three three (rw e at (told_entry book))))
 
-          pub so_far_next : (next : ℕ) → x ≡ Done next → (one : List ℕ) → one ≡ set now-out to w → two ≡ set one (to + 1) a → length three ≡ length now-out
+          pub so_far_next : (next : ℕ) → x ≡ Some next → (one : List ℕ) → one ≡ set now-out to w → two ≡ set one (to + 1) a → length three ≡ length now-out
               → RootSoFar fixed nums marks limit slot at out nums₃ marks₃ three (to + 2) next (k + 1)
           so_far_next next e one p q l =
               let y : (nums₃ ≡ nums₂) × (marks₃ ≡ marks₂) × (a ≤ next) × (next ≤ limit + 5000) = rw e at told.1 in
@@ -126,10 +119,10 @@ module _ (fixed nums marks : List ℕ) (limit slot at : ℕ) (out : List ℕ) (t
               }
 
     -- no numbers are left
-    pub so_far_end : 1024 ≤ k → (done : List ℕ) → done ≡ set now-out to a → AllRoots fixed nums marks limit slot at out done nums₂ marks₂ (Done a)
+    pub so_far_end : 1024 ≤ k → (done : List ℕ) → done ≡ set now-out to a → AllRoots fixed nums marks limit slot at out done nums₂ marks₂ (Some a)
     so_far_end h done e = (
-      λ book. cases_told book fixed nums marks limit slot at out done (Done a) t.1
-          (f.tells book done (Done a)
+      λ book. cases_told book fixed nums marks limit slot at out done (Some a) t.1
+          (f.tells book done (Some a)
           (cases_end (AtStart book fixed nums marks) (root_case_tree book marks) (root_cases_for book marks) (none_case book marks) (one_more_lem book marks) (root_word fixed marks) 1024 limit k to a now-out h done e)),
       (f.nums_same, f.marks_same, f.low, f.high),
     )

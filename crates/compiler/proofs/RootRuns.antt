@@ -3,8 +3,7 @@ use mathlib.Core.Path.{◌≡◌, sym, ap, ◌∙◌}
 use mathlib.Core.List.{List}
 use Prim.Native.Nat.{ℕ, ◌+◌, ◌≤◌}
 use lib.ListN.{length, set}
-use Rattle.term.specs.declared.renumber.Passed.{Passed}
-use Rattle.term.specs.declared.renumber.Passed.TheVariants.{Done, Stuck}
+use Rattle.std.specs.Prelude.{Option, Some, None}
 use Rattle.term.specs.Word.{Head, symbol, word, count_of, InTable}
 use Rattle.tree.specs.Path.{OnPath, start}
 use Rattle.tree.specs.Compile.{entering, compile}
@@ -17,7 +16,7 @@ use Rattle.compiler.proofs.TestRuns.{Subtree}
 use Rattle.compiler.proofs.RootEntered.{symbol_in, root_rows, root_stands, root_ready, root_marks_restored, root_nums_restored}
 
 -- what a case tells and keeps, its answer being known
-abbrev pub OneRoot : List ℕ → List ℕ → List ℕ → ℕ → ℕ → ℕ → List ℕ → List ℕ → List ℕ → List ℕ → Passed → Type 0
+abbrev pub OneRoot : List ℕ → List ℕ → List ℕ → ℕ → ℕ → ℕ → List ℕ → List ℕ → List ℕ → List ℕ → Option ℕ → Type 0
 OneRoot fixed nums marks limit at w out done nums-after marks-after x =
     ((book : List ℕ) → RootCaseTold book fixed nums marks limit at w out done x) × TreeKept nums marks limit at nums-after marks-after x
 
@@ -35,13 +34,13 @@ module _ (fixed nums marks : List ℕ) (limit at w : ℕ) (h : RootHead w) (stru
   stands : Stands book fixed nums marks 1 start → Stands book fixed (rows_numbered fixed struck 0 1 0 64 nums) (set struck 64 (count_of w + 1)) (1 + count_of w) (entering 0 own start)
   stands s = root_stands h.ident h.arguments w h.few h.low h.is book fixed nums marks s struck changed sizes
 
-  case_told : (a : ℕ) → TreeTold book fixed (rows_numbered fixed struck 0 1 0 64 nums) (set struck 64 (count_of w + 1)) limit (1 + count_of w) at out done (Done a)
-      → RootCaseTold book fixed nums marks limit at w out done (Done a)
+  case_told : (a : ℕ) → TreeTold book fixed (rows_numbered fixed struck 0 1 0 64 nums) (set struck 64 (count_of w + 1)) limit (1 + count_of w) at out done (Some a)
+      → RootCaseTold book fixed nums marks limit at w out done (Some a)
   unfolding TreeTold OneTold
   case_told a told path s g e i = rw (same_own g e i) (rw (tree_is path s) at (told (entering 0 own start) (stands s)))
 
-  case_stuck : TreeTold book fixed (rows_numbered fixed struck 0 1 0 64 nums) (set struck 64 (count_of w + 1)) limit (1 + count_of w) at out done Stuck
-      → RootCaseTold book fixed nums marks limit at w out done Stuck
+  case_stuck : TreeTold book fixed (rows_numbered fixed struck 0 1 0 64 nums) (set struck 64 (count_of w + 1)) limit (1 + count_of w) at out done None
+      → RootCaseTold book fixed nums marks limit at w out done None
   unfolding TreeTold OneTold
   case_stuck told path s g e i = rw (same_own g e i) (rw (tree_is path s) at (told (entering 0 own start) (stands s)))
 
@@ -55,12 +54,12 @@ module _ (fixed nums marks : List ℕ) (limit at w : ℕ) (t : RootCasesReady fi
       rw (numbers, counts)
       (root_ready h.ident h.arguments w h.few h.low h.is t.ready.book fixed nums marks t.ready.stands struck changed all_sizes t.ready.low size limit at t.ready.most t.begun t.room)
 
-  module _ (done nums₃ marks₃ : List ℕ) (x : Passed) (sub : Subtree fixed nums₂ (set struck 64 (more + 1)) limit (1 + more) at out done nums₃ marks₃ x) where
-    pub root_over : x ≡ Stuck → (book : List ℕ) → RootCaseTold book fixed nums marks limit at w out done Stuck
+  module _ (done nums₃ marks₃ : List ℕ) (x : Option ℕ) (sub : Subtree fixed nums₂ (set struck 64 (more + 1)) limit (1 + more) at out done nums₃ marks₃ x) where
+    pub root_over : x ≡ None → (book : List ℕ) → RootCaseTold book fixed nums marks limit at w out done None
     root_over e book = case_stuck fixed nums marks limit at w h struck changed all_sizes book out done (rw (numbers, counts, e) at (sub.0 book))
 
-    pub root_done : (next : ℕ) → x ≡ Done next → (nums₄ marks₄ : List ℕ) → length nums₄ ≡ length nums₃ → Changed (only_at (of_free_row marks₃ 0) (forgotten 1)) nums₃ nums₄
-        → length marks₄ ≡ length (set marks₃ 64 0) → Changed (only_at is_row (unmarked 17)) (set marks₃ 64 0) marks₄ → OneRoot fixed nums marks limit at w out done nums₄ marks₄ (Done next)
+    pub root_done : (next : ℕ) → x ≡ Some next → (nums₄ marks₄ : List ℕ) → length nums₄ ≡ length nums₃ → Changed (only_at (of_free_row marks₃ 0) (forgotten 1)) nums₃ nums₄
+        → length marks₄ ≡ length (set marks₃ 64 0) → Changed (only_at is_row (unmarked 17)) (set marks₃ 64 0) marks₄ → OneRoot fixed nums marks limit at w out done nums₄ marks₄ (Some next)
     root_done next e nums₄ marks₄ nums_size forgets marks-size unmarks =
         let k : (nums₃ ≡ nums₂) × (marks₃ ≡ set struck 64 (count_of w + 1)) × (at ≤ next) × (next ≤ limit + 5000) = rw (e, counts) at sub.1 in (
           λ book. case_told fixed nums marks limit at w h struck changed all_sizes book out done next (rw (numbers, counts, e) at (sub.0 book)),

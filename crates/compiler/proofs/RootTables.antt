@@ -2,91 +2,71 @@
 use mathlib.Core.Path.{◌≡◌, refl, sym, ap, ◌∙◌}
 use mathlib.Core.Bool.{Bool, true, false}
 use mathlib.Core.List.{List}
-use Prim.Native.Nat.{ℕ, suc, ◌+◌, ◌-◌, ◌*◌, ◌/◌, ◌%◌, ◌≤◌, ◌<◌}
+use Prim.Native.Nat.{ℕ, zero, suc, min, ◌+◌, ◌-◌, ◌*◌, ◌≤◌, ◌<◌}
 use native.Mathlib.Omega.{arith}
-use lib.Dec.{eqb, ltb}
-use lib.ListN.{get_or}
-use borrow.Author.Tests.{eq-eqb, ne_eqb, le-leb, lt-leb}
-use Rattle.term.specs.Word.{ident_of, count_of}
-use Rattle.compiler.specs.Told.Tables.{first_at, many_at, is_head_word, size_at, root_ident, has_symbol, lesser_of, smallest_from, root_word, count_roots, leaves_out}
-
--- ---- symbols
-pub symbol_struck : (fixed marks : List ℕ) (i r : ℕ) → (get_or marks r 0 ≡ 0 → ⊥) → false ≡ has_symbol fixed marks i r
-symbol_struck fixed marks i r e = rw (ne_eqb (get_or marks r 0) 0 e)
-
-pub symbol_free : (fixed marks : List ℕ) (i r g : ℕ) → get_or marks r 0 ≡ 0 → g ≡ root_ident fixed r → eqb g i ≡ has_symbol fixed marks i r
-symbol_free fixed marks i r g e q = rw (eq-eqb (get_or marks r 0) 0 e, q)
+use lib.Dec.{leb}
+use borrow.Author.Tests.{leb-true, leb-false}
+use Rattle.term.specs.Word.{pick}
+use Rattle.compiler.specs.Told.Tables.{many_at, is_head_word, size_at, has_symbol, lesser_of, smallest_from, root_word, count_roots}
 
 -- ---- the smallest count
-pub lesser_taken : (b : Bool) (c n x : ℕ) → x ≡ c → b ≡ true → x ≤ n → x ≡ lesser_of b c n
-lesser_taken b c n x e q l = rw (q, ← e, le-leb x n l)
+-- the lesser of three counts, whichever two are met first
+lesser_min : (a b : ℕ) → lesser_of true a b ≡ min a b
+lesser_min a b = go (leb a b) refl
+  where
+    go : (t : Bool) → leb a b ≡ t → pick t a b ≡ min a b
+    go true e = omega (arith, leb-true a b e)
+    go false e = omega (arith, leb-false a b e)
 
-pub lesser_more : (b : Bool) (c n x : ℕ) → x ≡ c → b ≡ true → n < x → n ≡ lesser_of b c n
-lesser_more b c n x e q l = rw (q, ← e, lt-leb x n l)
+lesser_swap : (b : Bool) (c x n : ℕ) → lesser_of true x (lesser_of b c n) ≡ lesser_of true (lesser_of b c x) n
+lesser_swap true c x n =
+    let d : min x (min c n) ≡ min (min c x) n = omega arith in
+    ap (lesser_of true x) (lesser_min c n) ∙ lesser_min x (min c n) ∙ d ∙ sym (ap (λ (y : ℕ). lesser_of true y n) (lesser_min c x) ∙ lesser_min (min c x) n)
+lesser_swap false c x n = refl
 
-pub lesser_not : (b : Bool) (c n : ℕ) → b ≡ false → n ≡ lesser_of b c n
-lesser_not b c n q = rw q
+pub lesser_most : (b : Bool) (c n : ℕ) → lesser_of b c n ≤ n
+lesser_most true c n = let e : lesser_of true c n ≡ min c n = lesser_min c n in omega (arith, e)
+lesser_most false c n = omega arith
 
 module _ (fixed marks : List ℕ) (i : ℕ) where
-  pub smallest_end : 16 ≡ smallest_from fixed marks i 64 (64 - 64)
+  smallest_within : (more r : ℕ) → smallest_from fixed marks i r more ≤ 16
   unfolding smallest_from
-  smallest_end = refl
+  smallest_within zero r = omega arith
+  smallest_within (suc more) r = omega (arith, smallest_within more (suc r), lesser_most (has_symbol fixed marks i r) (size_at fixed (r * 64)) (smallest_from fixed marks i (suc r) more))
+
+  pub smallest_start : lesser_of true 16 (smallest_from fixed marks i 0 64) ≡ smallest_from fixed marks i 0 64
+  smallest_start =
+      let l : smallest_from fixed marks i 0 64 ≤ 16 = smallest_within 64 0 in
+      let e : min 16 (smallest_from fixed marks i 0 64) ≡ smallest_from fixed marks i 0 64 = omega (arith, l) in
+      lesser_min 16 (smallest_from fixed marks i 0 64) ∙ e
 
   smallest_more : (r more : ℕ) → smallest_from fixed marks i r (suc more) ≡ lesser_of (has_symbol fixed marks i r) (size_at fixed (r * 64)) (smallest_from fixed marks i (suc r) more)
   unfolding smallest_from
   smallest_more r more = refl
 
-  pub smallest_step : (r best x : ℕ) → 0 < r → r ≤ 64 → best ≡ smallest_from fixed marks i r (64 - r) → x ≡ lesser_of (has_symbol fixed marks i (r - 1)) (size_at fixed ((r - 1) * 64)) best
-      → x ≡ smallest_from fixed marks i (r - 1) (64 - (r - 1))
-  smallest_step r best x a b e q =
-      let z : 64 - (r - 1) ≡ suc (64 - r) = omega arith in
-      let y : suc (r - 1) ≡ r = omega arith in
-      q ∙ sym (ap (smallest_from fixed marks i (r - 1)) z ∙ smallest_more (r - 1) (64 - r) ∙ rw (y, e))
+  -- the lesser of what the rows passed have and of what is left stays the same
+  pub smallest_step : (all r best x : ℕ) → r < 64 → lesser_of true best (smallest_from fixed marks i r (64 - r)) ≡ all → x ≡ lesser_of (has_symbol fixed marks i r) (size_at fixed (r * 64)) best
+      → lesser_of true x (smallest_from fixed marks i (r + 1) (64 - (r + 1))) ≡ all
+  smallest_step all r best x h e q =
+      let z : 64 - r ≡ suc (64 - (r + 1)) = omega arith in
+      let y : r + 1 ≡ suc r = omega arith in
+      ap (λ (k : ℕ). lesser_of true k (smallest_from fixed marks i (r + 1) (64 - (r + 1)))) q ∙ ap (λ (k : ℕ). lesser_of true (lesser_of (has_symbol fixed marks i r) (size_at fixed (r * 64)) best) (smallest_from fixed marks i k (64 - (r + 1)))) y
+      ∙ sym (lesser_swap (has_symbol fixed marks i r) (size_at fixed (r * 64)) best (smallest_from fixed marks i (suc r) (64 - (r + 1))))
+      ∙ sym (ap (lesser_of true best) (ap (smallest_from fixed marks i r) z ∙ smallest_more r (64 - (r + 1)))) ∙ e
 
-  pub smallest_all : (r best : ℕ) → r ≡ 0 → best ≡ smallest_from fixed marks i r (64 - r) → best ≡ smallest_from fixed marks i 0 64
-  smallest_all r best z e = rw z at e
+  smallest_none : (r : ℕ) → smallest_from fixed marks i r 0 ≡ 16
+  unfolding smallest_from
+  smallest_none r = refl
 
--- ---- rows that do not cover a head
-pub out_other : (fixed : List ℕ) (w r a b : ℕ) → a ≡ root_ident fixed r → b ≡ ident_of w → (a ≡ b → ⊥) → true ≡ leaves_out fixed w r
-out_other fixed w r a b p q d = rw (← p, ← q, ne_eqb a b d)
-
-pub out_count : (fixed : List ℕ) (w r a b x y : ℕ) → a ≡ root_ident fixed r → b ≡ ident_of w → a ≡ b → x ≡ count_of w → y ≡ size_at fixed (r * 64) → ltb x y ≡ leaves_out fixed w r
-out_count fixed w r a b x y p q e s t = rw (← p, ← q, eq-eqb a b e, s, t)
+  pub smallest_all : (all r best : ℕ) → 64 ≤ r → best ≤ 16 → lesser_of true best (smallest_from fixed marks i r (64 - r)) ≡ all → best ≡ all
+  smallest_all all r best h l e =
+      let z : 64 - r ≡ 0 = omega arith in
+      let d : best ≡ min best 16 = omega arith in
+      d ∙ sym (lesser_min best 16) ∙ sym (ap (lesser_of true best) (ap (smallest_from fixed marks i r) z ∙ smallest_none r)) ∙ e
 
 -- ---- cases of the root
-module _ (fixed marks : List ℕ) (k : ℕ) where
-  pub root_struck : (get_or marks (k / 16) 0 ≡ 0 → ⊥) → 33554432 ≡ root_word fixed marks k
-  unfolding root_word
-  root_struck e = rw (ne_eqb (get_or marks (k / 16) 0) 0 e)
-
-  module _ (free : get_or marks (k / 16) 0 ≡ 0) (i : ℕ) (is : i ≡ root_ident fixed (k / 16)) where
-    pub root_seen : eqb (first_at (has_symbol fixed marks i) 0 (k / 16)) (k / 16) ≡ false → 33554432 ≡ root_word fixed marks k
-    unfolding root_word
-    root_seen e = let q : eqb (first_at (has_symbol fixed marks (root_ident fixed (k / 16))) 0 (k / 16)) (k / 16) ≡ false = rw is at e in rw (eq-eqb (get_or marks (k / 16) 0) 0 free, q)
-
-    module _ (first : eqb (first_at (has_symbol fixed marks i) 0 (k / 16)) (k / 16) ≡ true) (least : ℕ) (smallest : least ≡ smallest_from fixed marks i 0 64) where
-      first_is_lem : eqb (first_at (has_symbol fixed marks (root_ident fixed (k / 16))) 0 (k / 16)) (k / 16) ≡ true
-      first_is_lem = rw is at first
-
-      smallest_is : smallest_from fixed marks (root_ident fixed (k / 16)) 0 64 ≡ least
-      smallest_is = sym (rw is at smallest)
-
-      pub root_counted : least ≤ k % 16 → k % 16 * 65536 + i ≡ root_word fixed marks k
-      unfolding root_word
-      root_counted l = rw (eq-eqb (get_or marks (k / 16) 0) 0 free, first_is_lem, smallest_is, le-leb least (k % 16) l, ← is)
-
-      pub root_fewer : k % 16 < least → 33554432 ≡ root_word fixed marks k
-      unfolding root_word
-      root_fewer l = rw (eq-eqb (get_or marks (k / 16) 0) 0 free, first_is_lem, smallest_is, lt-leb least (k % 16) l)
-
 abbrev pub root_here : List ℕ → List ℕ → ℕ → Bool
 root_here fixed marks k = is_head_word (root_word fixed marks k)
-
-pub root_none : (fixed marks : List ℕ) (k w : ℕ) → w ≡ root_word fixed marks k → w ≡ 33554432 → root_here fixed marks k ≡ false
-root_none fixed marks k w q e = rw (← q, eq-eqb w 33554432 e)
-
-pub root_some : (fixed marks : List ℕ) (k w : ℕ) → w ≡ root_word fixed marks k → (w ≡ 33554432 → ⊥) → root_here fixed marks k ≡ true
-root_some fixed marks k w q e = rw (← q, ne_eqb w 33554432 e)
 
 pub roots_are : (fixed marks : List ℕ) (c : ℕ) → c ≡ many_at (root_here fixed marks) 0 1024 → c ≡ count_roots fixed marks
 unfolding count_roots

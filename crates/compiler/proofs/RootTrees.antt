@@ -5,8 +5,7 @@ use Prim.Native.Nat.{ℕ, ◌+◌, ◌*◌, ◌≤◌, ◌<◌}
 use native.Mathlib.Omega.{arith}
 use lib.ListN.{set}
 use lib.Seq.{sets}
-use Rattle.term.specs.declared.renumber.Passed.{Passed}
-use Rattle.term.specs.declared.renumber.Passed.TheVariants.{Done, Stuck}
+use Rattle.std.specs.Prelude.{Option, Some, None}
 use Rattle.tree.specs.Tree.{Fail, Switch, Cases}
 use Rattle.tree.specs.Path.{start}
 use Rattle.tree.specs.Root.{root_heads, root_cases, root_tree}
@@ -28,7 +27,7 @@ unfolding count_roots
 roots_most fixed marks = omega (arith, many_heads (root_word fixed marks) 1024 0, heads_few (root_word fixed marks) 0 1024)
 
 module _ (fixed nums marks : List ℕ) (limit : ℕ) (t : RootReady fixed nums marks limit) (out : List ℕ) (r : ℕ) (first : r ≡ first_row marks) where
-  pub root_fails : r ≡ 64 → (done : List ℕ) → done ≡ set out 0 0 → (book : List ℕ) → RootTold book fixed nums marks limit out done (Done 1)
+  pub root_fails : r ≡ 64 → (done : List ℕ) → done ≡ set out 0 0 → (book : List ℕ) → RootTold book fixed nums marks limit out done (Some 1)
   unfolding RootTold
   root_fails e done p book s =
       let c = root_tree_none (rows_left book marks 0 64) (no_rows book marks s.absent (omega (arith, e, first))) in
@@ -57,16 +56,16 @@ module _ (fixed nums marks : List ℕ) (limit : ℕ) (t : RootReady fixed nums m
         ≡ 2 ∷ 0 ∷ many ∷ (case_heads (4 + 2 * many) (cases_of book) ++ (b ∷ (layout_cases (4 + 2 * many) (cases_of book) ++ (0 ∷ []))))
     laid book s b e = ap (layout 0) (whole book s) ∙ switch_laid 0 0 (cases_of book) Fail ∙ rw (counted book s, ← e, fail_layout b)
 
-    module _ (one two three four nums₂ marks₂ : List ℕ) (p : one ≡ set out 0 2) (q : two ≡ set one 1 0) (v : three ≡ set two 2 many) (x : Passed)
+    module _ (one two three four nums₂ marks₂ : List ℕ) (p : one ≡ set out 0 2) (q : two ≡ set one 1 0) (v : three ≡ set two 2 many) (x : Option ℕ)
         (cases : AllRoots fixed nums marks limit 3 (4 + 2 * many) three four nums₂ marks₂ x) where
-      over : (book : List ℕ) → RootCasesTold book fixed nums marks limit 3 (4 + 2 * many) three four Stuck → RootTold book fixed nums marks limit out four Stuck
+      over : (book : List ℕ) → RootCasesTold book fixed nums marks limit 3 (4 + 2 * many) three four None → RootTold book fixed nums marks limit out four None
       unfolding AllTold RootTold
       over book told s = omega (arith, long_is book s, told start s)
 
-      pub root_cases_over : x ≡ Stuck → (book : List ℕ) → RootTold book fixed nums marks limit out four Stuck
+      pub root_cases_over : x ≡ None → (book : List ℕ) → RootTold book fixed nums marks limit out four None
       root_cases_over e book = over book (rw e at (cases.0 book))
 
-      module _ (next : ℕ) (is_done : x ≡ Done next) where
+      module _ (next : ℕ) (is_done : x ≡ Some next) where
         kept : (nums₂ ≡ nums) × (marks₂ ≡ marks) × (4 + 2 * many ≤ next) × (next ≤ limit + 5000)
         kept = rw is_done at cases.1
 
@@ -74,7 +73,7 @@ module _ (fixed nums marks : List ℕ) (limit : ℕ) (t : RootReady fixed nums m
         next_most = omega (arith, kept.3, t.most)
 
         module _ (five : List ℕ) (end : ℕ) (u : five ≡ set four next 0) (y : end ≡ next + 1) where
-          finished : (book : List ℕ) → RootCasesTold book fixed nums marks limit 3 (4 + 2 * many) three four (Done next) → RootTold book fixed nums marks limit out five (Done end)
+          finished : (book : List ℕ) → RootCasesTold book fixed nums marks limit 3 (4 + 2 * many) three four (Some next) → RootTold book fixed nums marks limit out five (Some end)
           unfolding AllTold RootTold
           finished book told s =
               let c = told start s in
@@ -85,5 +84,5 @@ module _ (fixed nums marks : List ℕ) (limit : ℕ) (t : RootReady fixed nums m
                     ∙ ap (sets out 0) (sym (laid book s next c.0)),
               )
 
-          pub root_done : (book : List ℕ) → RootTold book fixed nums marks limit out five (Done end)
+          pub root_done : (book : List ℕ) → RootTold book fixed nums marks limit out five (Some end)
           root_done book = finished book (rw is_done at (cases.0 book))

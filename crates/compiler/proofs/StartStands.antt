@@ -8,7 +8,7 @@ use native.Mathlib.Omega.{arith}
 use lib.Dec.{ltb}
 use lib.ListN.{length, get_or, get_or-eq_default}
 use borrow.Author.Tests.{ltb-true, ltb-false}
-use Rattle.term.specs.declared.check.Checked.TheVariants.{Good}
+use Rattle.std.specs.Prelude.{Ok}
 use Rattle.term.specs.Row.{Row, nothing, node, width, words}
 use Rattle.term.proofs.Laws.{never, width_nothing, words_node}
 use Rattle.book.specs.Book.{Rule, check_book, rule_at}
@@ -27,7 +27,7 @@ some_words : (f : Row) → width f ≡ 1 → 0 < length (words f)
 some_words nothing e = absurd (omega (arith, e, width_nothing))
 some_words (node h kids rest) e = omega (arith, ap length (words_node h kids rest))
 
-module _ (book fixed nums marks : List ℕ) (accepted : check_book book ≡ Good) (rules : RulesAt book fixed 64) (numbers : (k : ℕ) → get_or nums k 0 ≡ root_numbered k 0)
+module _ (book fixed nums marks : List ℕ) (accepted : check_book book ≡ Ok tt) (rules : RulesAt book fixed 64) (numbers : (k : ℕ) → get_or nums k 0 ≡ root_numbered k 0)
     (struck : (k : ℕ) → get_or marks k 0 ≡ absent_marked book k 0) where
   left_some : (r : ℕ) (rule : Rule) → rule_at book r ≡ some rule → 0 < length rule.left
   left_some r rule e =
@@ -89,7 +89,7 @@ module _ (book fixed nums marks : List ℕ) (accepted : check_book book ≡ Good
       rw z at (rows_from_lem 64 0 refl)
 
 -- ---- what load leaves
-module _ (book fixed nums₀ nums marks₀ marks : List ℕ) (accepted : check_book book ≡ Good) (rules : RulesAt book fixed 64) (long : length nums₀ ≡ 4096)
+module _ (book fixed nums₀ nums marks₀ marks : List ℕ) (accepted : check_book book ≡ Ok tt) (rules : RulesAt book fixed 64) (long : length nums₀ ≡ 4096)
     (numbered : Changed root_numbered nums₀ nums) (clear : (k : ℕ) → get_or marks₀ k 0 ≡ 0) (marked : Changed (absent_marked book) marks₀ marks) where
   numbers_are : (k : ℕ) → get_or nums k 0 ≡ root_numbered k 0
   unfolding Changed

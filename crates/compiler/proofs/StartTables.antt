@@ -8,7 +8,7 @@ use native.Mathlib.Omega.{arith}
 use lib.Dec.{eqb, ltb}
 use lib.ListN.{length, get_or}
 use borrow.Author.Tests.{lt-ltb, le-ltb, eq-eqb, ne_eqb}
-use Rattle.term.specs.declared.check.Checked.TheVariants.{Good}
+use Rattle.std.specs.Prelude.{Ok}
 use Rattle.term.specs.Word.{pick}
 use Rattle.term.proofs.Laws.{never}
 use Rattle.book.specs.Book.{Rule, check_book, rule_at}
@@ -56,7 +56,7 @@ new_root zero i e = rw root_place (below_root i 0 [])
 new_root (suc n) i e = never (let z = open_later n in cc)
 
 -- ---- the tables
-module _ (book fixed nums marks : List ℕ) (accepted : check_book book ≡ Good) (rules : RulesAt book fixed 64) (numbers : (k : ℕ) → get_or nums k 0 ≡ root_numbered k 0)
+module _ (book fixed nums marks : List ℕ) (accepted : check_book book ≡ Ok tt) (rules : RulesAt book fixed 64) (numbers : (k : ℕ) → get_or nums k 0 ≡ root_numbered k 0)
     (struck : (k : ℕ) → get_or marks k 0 ≡ absent_marked book k 0) where
   pub mark_free : (k : ℕ) → 64 ≤ k → is_free marks k ≡ true
   mark_free k h = eq-eqb (get_or marks k 0) 0 (struck k ∙ rw (le-ltb k 64 h))

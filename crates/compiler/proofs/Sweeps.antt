@@ -1,104 +1,17 @@
--- Searching and changing a table word by word: a law for each way through the body of a loop.
+-- Changing a table word by word: a law for each way through the body of a loop; and what a search says of its test.
 use mathlib.Core.Path.{◌≡◌, refl, sym, ap, ◌∙◌}
 use mathlib.Core.Bool.{Bool, true, false}
-use mathlib.Core.List.{List}
+use mathlib.Core.List.{List, ◌++◌}
 use Prim.Native.Nat.{ℕ, zero, suc, ◌+◌, ◌-◌, ◌≤◌, ◌<◌}
 use native.Mathlib.Omega.{arith}
 use native.Mathlib.Decide.{dec_le}
 use lib.Dec.{eqb, ltb}
-use lib.ListN.{length, get_or, set, length-set}
-use lib.Seq.{get_or-set_same, get_or-set_other}
+use lib.ListN.{length, get_or, set, take, drop, length-set, get_or-append}
+use lib.Seq.{get_or-set_same, get_or-set_other, get_or-drop}
 use borrow.Author.Tests.{ltb-true, ltb-false, lt-ltb, le-ltb, eqb-true, eqb-false}
 use Rattle.term.specs.Word.{pick}
-use Rattle.compiler.specs.Told.Tables.{first_at, many_at, Changed}
-
--- ---- searching: what is left gives the answer
-pub record Searching (p : ℕ → Bool) (from more i : ℕ) : Type 0 where
-  pub begun : from ≤ i
-  pub within : i ≤ from + more
-  pub rest : first_at p from more ≡ first_at p i (from + more - i)
-
-first_none : (p : ℕ → Bool) (i : ℕ) → first_at p i 0 ≡ i
-unfolding first_at
-first_none p i = refl
-
-first_yes : (p : ℕ → Bool) (i more : ℕ) → p i ≡ true → first_at p i (suc more) ≡ i
-unfolding first_at
-first_yes p i more e = rw e
-
-first_no : (p : ℕ → Bool) (i more : ℕ) → p i ≡ false → first_at p i (suc more) ≡ first_at p (suc i) more
-unfolding first_at
-first_no p i more e = rw e
-
-pub search_start : (p : ℕ → Bool) (from more : ℕ) → Searching p from more from
-search_start p from more =
-    let z : from + more - from ≡ more = omega arith in
-    record { begun = omega arith; within = omega arith; rest = ap (first_at p from) (sym z) }
-
-pub search_next : (p : ℕ → Bool) (from more i : ℕ) → Searching p from more i → i < from + more → p i ≡ false → Searching p from more (i + 1)
-search_next p from more i s h e =
-    let z : from + more - i ≡ suc (from + more - (i + 1)) = omega arith in
-    let y : i + 1 ≡ suc i = omega arith in
-    record {
-      begun = omega (arith, s.begun);
-      within = omega arith;
-      rest = s.rest ∙ ap (first_at p i) z ∙ first_no p i (from + more - (i + 1)) e ∙ ap (λ (k : ℕ). first_at p k (from + more - (i + 1))) (sym y);
-    }
-
-pub search_found : (p : ℕ → Bool) (from more i : ℕ) → Searching p from more i → i < from + more → p i ≡ true → first_at p from more ≡ i
-search_found p from more i s h e =
-    let z : from + more - i ≡ suc (from + more - (i + 1)) = omega arith in
-    s.rest ∙ ap (first_at p i) z ∙ first_yes p i (from + more - (i + 1)) e
-
-pub search_nowhere : (p : ℕ → Bool) (from more i : ℕ) → Searching p from more i → from + more ≤ i → first_at p from more ≡ from + more
-search_nowhere p from more i s h =
-    let z : from + more - i ≡ 0 = omega arith in
-    let y : i ≡ from + more = omega (arith, s.within) in
-    s.rest ∙ ap (first_at p i) z ∙ first_none p i ∙ y
-
--- ---- counting
-pub record Counting (p : ℕ → Bool) (from more i so_far : ℕ) : Type 0 where
-  pub begun : from ≤ i
-  pub within : i ≤ from + more
-  pub few : so_far ≤ i - from
-  pub rest : many_at p from more ≡ so_far + many_at p i (from + more - i)
-
-many_none : (p : ℕ → Bool) (i : ℕ) → many_at p i 0 ≡ 0
-unfolding many_at
-many_none p i = refl
-
-many_step : (p : ℕ → Bool) (i more : ℕ) → many_at p i (suc more) ≡ pick (p i) 1 0 + many_at p (suc i) more
-unfolding many_at
-many_step p i more = refl
-
-pub count_start : (p : ℕ → Bool) (from more : ℕ) → Counting p from more from 0
-count_start p from more =
-    let z : from + more - from ≡ more = omega arith in
-    let e : many_at p from more ≡ many_at p from (from + more - from) = ap (many_at p from) (sym z) in
-    record { begun = omega arith; within = omega arith; few = omega arith; rest = omega (arith, e) }
-
-count_next : (p : ℕ → Bool) (from more i so_far one : ℕ) → Counting p from more i so_far → i < from + more → pick (p i) 1 0 ≡ one → one ≤ 1 → Counting p from more (i + 1) (so_far + one)
-count_next p from more i so_far one s h e l =
-    let z : from + more - i ≡ suc (from + more - (i + 1)) = omega arith in
-    let y : i + 1 ≡ suc i = omega arith in
-    let x : many_at p i (from + more - i) ≡ one + many_at p (i + 1) (from + more - (i + 1)) =
-    ap (many_at p i) z ∙ many_step p i (from + more - (i + 1)) ∙ ap (λ (k : ℕ). k + many_at p (suc i) (from + more - (i + 1))) e
-    ∙ ap (λ (k : ℕ). one + many_at p k (from + more - (i + 1))) (sym y) in
-    record { begun = omega (arith, s.begun); within = omega arith; few = omega (arith, s.few, s.begun); rest = omega (arith, s.rest, x) }
-
-pub count_yes : (p : ℕ → Bool) (from more i so_far : ℕ) → Counting p from more i so_far → i < from + more → p i ≡ true → Counting p from more (i + 1) (so_far + 1)
-count_yes p from more i so_far s h e = count_next p from more i so_far 1 s h (ap (λ (b : Bool). pick b 1 0) e) (omega arith)
-
-pub count_no : (p : ℕ → Bool) (from more i so_far : ℕ) → Counting p from more i so_far → i < from + more → p i ≡ false → Counting p from more (i + 1) so_far
-count_no p from more i so_far s h e =
-    let z : so_far + 0 ≡ so_far = omega arith in
-    rw z at (count_next p from more i so_far 0 s h (ap (λ (b : Bool). pick b 1 0) e) (omega arith))
-
-pub counted_all : (p : ℕ → Bool) (from more i so_far : ℕ) → Counting p from more i so_far → from + more ≤ i → so_far ≡ many_at p from more
-counted_all p from more i so_far s h =
-    let z : from + more - i ≡ 0 = omega arith in
-    let y : many_at p i (from + more - i) ≡ 0 = ap (many_at p i) z ∙ many_none p i in
-    omega (arith, s.rest, y)
+use Rattle.std.proofs.lemmas.List.{length-take-le, get_or-take, get_or-append_right}
+use Rattle.compiler.specs.Told.Tables.{first_at, Changed}
 
 -- ---- changing: the words passed are changed, the others are as they came
 pub record Sweeping (f : ℕ → ℕ → ℕ) (before after : List ℕ) (i : ℕ) : Type 0 where
@@ -133,12 +46,27 @@ sweep_set f before after i v s h e = record { long = simp length-set s.long; cha
     go k true q = rw (eqb-true k i q) (get_or-set_same after i v 0 h ∙ e ∙ sym (last_point f before i))
     go k false q = get_or-set_other after i k v 0 (eqb-false k i q) ∙ s.changed k ∙ sweep_point f before i k (eqb-false k i q)
 
-pub sweep_keep : (f : ℕ → ℕ → ℕ) (before after : List ℕ) (i : ℕ) → Sweeping f before after i → f i (get_or before i 0) ≡ get_or before i 0 → Sweeping f before after (i + 1)
-sweep_keep f before after i s e = record { long = s.long; changed = λ k. go k (eqb k i) refl }
+-- the word at hand becomes what the function makes of it
+pub sweep_next : {f : ℕ → ℕ → ℕ} {before after : List ℕ} {i v : ℕ} → Sweeping f before after i → i < length after → v ≡ f i (get_or after i 0) → Sweeping f before (set after i v) (i + 1)
+sweep_next {f} {before} {after} {i} {v} s h e = sweep_set f before after i v s h (e ∙ ap (f i) (sweep_here f before after i s i (omega arith)))
+
+-- the first words of a table were passed, and the function leaves the others as they are
+pub part_changed : (f : ℕ → ℕ → ℕ) (l part : List ℕ) (n i : ℕ) → n ≤ length l → Sweeping f (take n l) part i → n ≤ i → ((k : ℕ) → n ≤ k → f k (get_or l k 0) ≡ get_or l k 0)
+    → Changed f l (part ++ drop n l)
+unfolding Changed
+part_changed f l part n i h s far e k = go (ltb k n) refl
   where
-    go : (k : ℕ) (b : Bool) → eqb k i ≡ b → get_or after k 0 ≡ pick (ltb k (i + 1)) (f k (get_or before k 0)) (get_or before k 0)
-    go k true q = rw (eqb-true k i q) (sweep_here f before after i s i (omega arith) ∙ sym (last_point f before i ∙ e))
-    go k false q = s.changed k ∙ sweep_point f before i k (eqb-false k i q)
+    long : length part ≡ n
+    long = s.long ∙ length-take-le n l h
+
+    go : (b : Bool) → ltb k n ≡ b → get_or (part ++ drop n l) k 0 ≡ f k (get_or l k 0)
+    go true q =
+        let few : k < n = ltb-true k n q in
+        get_or-append part (drop n l) 0 k (omega (arith, long, few)) ∙ s.changed k ∙ rw (lt-ltb k i (omega (arith, few, far)), get_or-take n l k 0 few)
+    go false q =
+        let past : n ≤ k = ltb-false k n q in
+        let z : n + (k - n) ≡ k = omega (arith, past) in
+        get_or-append_right part (drop n l) n k 0 long past ∙ get_or-drop n l (k - n) 0 ∙ rw z (sym (e k past))
 
 -- words that stay as they are may be passed over
 pub sweep_skip : (f : ℕ → ℕ → ℕ) (before after : List ℕ) (i j : ℕ) → Sweeping f before after i → i ≤ j → ((k : ℕ) → i ≤ k → k < j → f k (get_or before k 0) ≡ get_or before k 0) → Sweeping f before after j

@@ -5,8 +5,7 @@ use mathlib.Core.List.{List}
 use Prim.Native.Nat.{ℕ, ◌+◌, ◌*◌, ◌≤◌, ◌<◌}
 use native.Mathlib.Omega.{arith}
 use lib.ListN.{length, set}
-use Rattle.term.specs.declared.renumber.Passed.{Passed}
-use Rattle.term.specs.declared.renumber.Passed.TheVariants.{Done, Stuck}
+use Rattle.std.specs.Prelude.{Option, Some, None}
 use Rattle.term.specs.Word.{count_of}
 use Rattle.compiler.specs.Told.Tables.{Changed, only_at, unmarked, forgotten, is_row, of_free_row, struck_rows, has_other, count_heads, rows_numbered}
 use Rattle.compiler.specs.Told.Stands.{TreeReady, TreeKept, TreeTold}
@@ -17,11 +16,11 @@ use Rattle.compiler.proofs.Readies.{heads_most, cases_ready, default_ready, defa
 use Rattle.compiler.proofs.TestRuns.{Subtree}
 
 -- what the cases tell and keep, their answer being known
-abbrev pub AllCases : List ℕ → List ℕ → List ℕ → ℕ → ℕ → ℕ → ℕ → ℕ → List ℕ → List ℕ → List ℕ → List ℕ → Passed → Type 0
+abbrev pub AllCases : List ℕ → List ℕ → List ℕ → ℕ → ℕ → ℕ → ℕ → ℕ → List ℕ → List ℕ → List ℕ → List ℕ → Option ℕ → Type 0
 AllCases fixed nums marks limit count slot at n out done nums-after marks-after x =
     ((book : List ℕ) → CasesTold book fixed nums marks limit count slot at n out done x) × TreeKept nums marks limit at nums-after marks-after x
 
-abbrev pub OneCase : List ℕ → List ℕ → List ℕ → ℕ → ℕ → ℕ → ℕ → ℕ → List ℕ → List ℕ → List ℕ → List ℕ → Passed → Type 0
+abbrev pub OneCase : List ℕ → List ℕ → List ℕ → ℕ → ℕ → ℕ → ℕ → ℕ → List ℕ → List ℕ → List ℕ → List ℕ → Option ℕ → Type 0
 OneCase fixed nums marks limit count at n w out done nums-after marks-after x =
     ((book : List ℕ) → CaseTold book fixed nums marks limit count at n w out done x) × TreeKept nums marks limit at nums-after marks-after x
 
@@ -39,19 +38,16 @@ module _ (fixed nums marks : List ℕ) (limit count at n : ℕ) (t : SwitchReady
   from = omega (arith, many_is)
 
   module _ (one two three four nums₂ marks₂ : List ℕ) (p : one ≡ set out at 2) (q : two ≡ set one (at + 1) n) (r : three ≡ set two (at + 2) many)
-      (x : Passed) (cases : AllCases fixed nums marks limit count (at + 3) (at + 4 + 2 * many) n three four nums₂ marks₂ x) where
-    pub switch_cases_over : x ≡ Stuck → (book : List ℕ) → TreeTold book fixed nums marks limit count at out four Stuck
+      (x : Option ℕ) (cases : AllCases fixed nums marks limit count (at + 3) (at + 4 + 2 * many) n three four nums₂ marks₂ x) where
+    pub switch_cases_over : x ≡ None → (book : List ℕ) → TreeTold book fixed nums marks limit count at out four None
     switch_cases_over e book = cases_over book fixed nums marks limit count at out n t.first t.lowest (at + 4 + 2 * many) from three four four (rw e at (cases.0 book))
 
-    module _ (next : ℕ) (is_done : x ≡ Done next) where
+    module _ (next : ℕ) (is_done : x ≡ Some next) where
       kept : (nums₂ ≡ nums) × (marks₂ ≡ marks) × (at + 4 + 2 * many ≤ next) × (next ≤ limit + 5000)
       kept = rw is_done at cases.1
 
-      pub cases_size : length marks₂ ≡ length marks
+      cases_size : length marks₂ ≡ length marks
       cases_size = ap length kept.1
-
-      pub nums_size : length nums₂ ≡ length nums
-      nums_size = ap length kept.0
 
       module _ (dropped : List ℕ) (size : length dropped ≡ length marks₂) (drops : Changed (struck_rows (has_other fixed nums₂ n 33554432) m) marks₂ dropped) where
         drops_entry : Changed (struck_rows (has_other fixed nums n 33554432) m) marks dropped
@@ -68,13 +64,13 @@ module _ (fixed nums marks : List ℕ) (limit count at n : ℕ) (t : SwitchReady
         third : three ≡ set two (at + 2) (count_heads fixed nums marks n)
         third = r ∙ rw many_is
 
-        module _ (five nums₄ marks₄ : List ℕ) (y : Passed) (other : Subtree fixed nums₂ dropped limit count next four five nums₄ marks₄ y) where
-          pub switch_default_over : y ≡ Stuck → (book : List ℕ) → TreeTold book fixed nums marks limit count at out five Stuck
+        module _ (five nums₄ marks₄ : List ℕ) (y : Option ℕ) (other : Subtree fixed nums₂ dropped limit count next four five nums₄ marks₄ y) where
+          pub switch_default_over : y ≡ None → (book : List ℕ) → TreeTold book fixed nums marks limit count at out five None
           switch_default_over e book =
               default_over book fixed nums marks limit count at out n t.first t.lowest (at + 4 + 2 * many) from next one two three four p q third (rw is_done at (cases.0 book)) m real dropped drops_entry five five
               (rw (kept.0, e) at (other.0 book))
 
-          pub switch_done : (end : ℕ) → y ≡ Done end → (marks₅ : List ℕ) → length marks₅ ≡ length marks₄ → Changed (only_at is_row (unmarked m)) marks₄ marks₅ → Subtree fixed nums marks limit count at out five nums₄ marks₅ (Done end)
+          pub switch_done : (end : ℕ) → y ≡ Some end → (marks₅ : List ℕ) → length marks₅ ≡ length marks₄ → Changed (only_at is_row (unmarked m)) marks₄ marks₅ → Subtree fixed nums marks limit count at out five nums₄ marks₅ (Some end)
           switch_done end e marks₅ size₅ unmarks₅ =
               let k : (nums₄ ≡ nums₂) × (marks₄ ≡ dropped) × (next ≤ end) × (end ≤ limit + 5000) = rw e at other.1 in (
                 λ book. switch_told book fixed nums marks limit count at out n t.first t.lowest (at + 4 + 2 * many) from next one two three four p q third (rw is_done at (cases.0 book)) m real dropped drops_entry end five
@@ -92,14 +88,14 @@ module _ (fixed nums marks : List ℕ) (limit count at m n w : ℕ) (t : CasesRe
   case_real : m ≡ 0 → ⊥
   case_real e = omega (arith, e, t.older 0)
 
-  module _ (done nums₃ marks₃ : List ℕ) (x : Passed) (sub : Subtree fixed nums₂ (set struck (64 + n) m) limit (count + count_of w) at out done nums₃ marks₃ x) where
-    pub case_over : x ≡ Stuck → (book : List ℕ) → CaseTold book fixed nums marks limit count at n w out done Stuck
+  module _ (done nums₃ marks₃ : List ℕ) (x : Option ℕ) (sub : Subtree fixed nums₂ (set struck (64 + n) m) limit (count + count_of w) at out done nums₃ marks₃ x) where
+    pub case_over : x ≡ None → (book : List ℕ) → CaseTold book fixed nums marks limit count at n w out done None
     case_over e book =
         case_stuck book fixed nums marks count n w m case_real t.known t.inner t.unmarked_place of_row struck changed (size ∙ t.sizes.2, t.sizes.1, t.sizes.0) limit at out done (rw (numbers, e) at (sub.0 book))
 
-    pub case_done : (next : ℕ) → x ≡ Done next → (nums₄ marks₄ : List ℕ) → length nums₄ ≡ length nums₃ → Changed (only_at (of_free_row marks₃ 0) (forgotten count)) nums₃ nums₄
+    pub case_done : (next : ℕ) → x ≡ Some next → (nums₄ marks₄ : List ℕ) → length nums₄ ≡ length nums₃ → Changed (only_at (of_free_row marks₃ 0) (forgotten count)) nums₃ nums₄
         → length marks₄ ≡ length (set marks₃ (64 + n) 0) → Changed (only_at is_row (unmarked m)) (set marks₃ (64 + n) 0) marks₄
-        → OneCase fixed nums marks limit count at n w out done nums₄ marks₄ (Done next)
+        → OneCase fixed nums marks limit count at n w out done nums₄ marks₄ (Some next)
     case_done next e nums₄ marks₄ nums_size forgets marks-size unmarks =
         let k : (nums₃ ≡ nums₂) × (marks₃ ≡ set struck (64 + n) m) × (at ≤ next) × (next ≤ limit + 5000) = rw e at sub.1 in (
           λ book. case_told book fixed nums marks count n w m case_real t.known t.inner t.unmarked_place of_row struck changed (size ∙ t.sizes.2, t.sizes.1, t.sizes.0) limit at out done next (rw (numbers, e) at (sub.0 book)),

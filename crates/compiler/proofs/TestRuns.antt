@@ -5,8 +5,7 @@ use Prim.Native.Nat.{ℕ, ◌+◌, ◌≤◌, ◌<◌}
 use native.Mathlib.Omega.{arith}
 use lib.ListN.{length, set}
 use lib.Seq.{sets}
-use Rattle.term.specs.declared.renumber.Passed.{Passed}
-use Rattle.term.specs.declared.renumber.Passed.TheVariants.{Done, Stuck}
+use Rattle.std.specs.Prelude.{Option, Some, None}
 use Rattle.compiler.specs.Told.Tables.{Changed, only_at, unmarked, is_row, of_free_row, kind_from, struck_rows, struck_same, row_has, front_words}
 use Rattle.compiler.specs.Told.Stands.{TreeReady, TreeKept, TreeTold}
 use Rattle.compiler.specs.Told.NodeTold.{left_in_rows, TestReady}
@@ -14,7 +13,7 @@ use Rattle.compiler.proofs.ToldNodes.{yes_stuck, no_stuck, test_told}
 use Rattle.compiler.proofs.Readies.{front_long, yes_ready, yes_less, yes_restored, no_ready, no_less, no_restored}
 
 -- what a subtree tells and keeps, its answer being known
-abbrev pub Subtree : List ℕ → List ℕ → List ℕ → ℕ → ℕ → ℕ → List ℕ → List ℕ → List ℕ → List ℕ → Passed → Type 0
+abbrev pub Subtree : List ℕ → List ℕ → List ℕ → ℕ → ℕ → ℕ → List ℕ → List ℕ → List ℕ → List ℕ → Option ℕ → Type 0
 Subtree fixed nums marks limit count at out done nums-after marks-after x =
     ((book : List ℕ) → TreeTold book fixed nums marks limit count at out done x) × TreeKept nums marks limit at nums-after marks-after x
 
@@ -31,14 +30,14 @@ module _ (fixed nums marks : List ℕ) (limit count at id : ℕ) (t : TestReady 
     real : m ≡ 0 → ⊥
     real e = omega (arith, e, own)
 
-    module _ (three nums₂ marks₂ : List ℕ) (x : Passed) (yes : Subtree fixed nums struck limit count (slot + 2) two three nums₂ marks₂ x) where
+    module _ (three nums₂ marks₂ : List ℕ) (x : Option ℕ) (yes : Subtree fixed nums struck limit count (slot + 2) two three nums₂ marks₂ x) where
       at_front : (book : List ℕ) → TreeTold book fixed nums struck limit count (at + length (front_words fixed nums id) + 2) two three x
       at_front book = rw slot_is at (yes.0 book)
 
-      pub yes_over : x ≡ Stuck → (book : List ℕ) → TreeTold book fixed nums marks limit count at out three Stuck
+      pub yes_over : x ≡ None → (book : List ℕ) → TreeTold book fixed nums marks limit count at out three None
       yes_over e book = yes_stuck book fixed nums marks limit count at out t.first t.none_open id t.is t.some_left m real struck strikes two three three (rw e at (at_front book))
 
-      module _ (next : ℕ) (is_done : x ≡ Done next) (marks₃ : List ℕ) (size₃ : length marks₃ ≡ length marks₂) (unmarks : Changed (only_at (of_free_row marks₂ (kind_from id)) (unmarked m)) marks₂ marks₃) where
+      module _ (next : ℕ) (is_done : x ≡ Some next) (marks₃ : List ℕ) (size₃ : length marks₃ ≡ length marks₂) (unmarks : Changed (only_at (of_free_row marks₂ (kind_from id)) (unmarked m)) marks₂ marks₃) where
         kept : (nums₂ ≡ nums) × (marks₂ ≡ struck) × (slot + 2 ≤ next) × (next ≤ limit + 5000)
         kept = rw is_done at yes.1
 
@@ -69,13 +68,13 @@ module _ (fixed nums marks : List ℕ) (limit count at id : ℕ) (t : TestReady 
           fourth_is : four ≡ set three (at + length (front_words fixed nums id) + 1) next
           fourth_is = fourth ∙ rw slot_is
 
-          module _ (five nums₄ marks₄ : List ℕ) (y : Passed) (no : Subtree fixed nums₂ dropped limit count next four five nums₄ marks₄ y) where
-            pub no_over : y ≡ Stuck → (book : List ℕ) → TreeTold book fixed nums marks limit count at out five Stuck
+          module _ (five nums₄ marks₄ : List ℕ) (y : Option ℕ) (no : Subtree fixed nums₂ dropped limit count next four five nums₄ marks₄ y) where
+            pub no_over : y ≡ None → (book : List ℕ) → TreeTold book fixed nums marks limit count at out five None
             no_over e book =
                 no_stuck book fixed nums marks limit count at out t.first t.none_open id t.is t.some_left m real struck strikes next two three four second_is (rw is_done at (at_front book)) fourth_is dropped drops_entry five five
                 (rw (nums_back, e) at (no.0 book))
 
-            pub test_done : (end : ℕ) → y ≡ Done end → (marks₅ : List ℕ) → length marks₅ ≡ length marks₄ → Changed (only_at is_row (unmarked m)) marks₄ marks₅ → Subtree fixed nums marks limit count at out five nums₄ marks₅ (Done end)
+            pub test_done : (end : ℕ) → y ≡ Some end → (marks₅ : List ℕ) → length marks₅ ≡ length marks₄ → Changed (only_at is_row (unmarked m)) marks₄ marks₅ → Subtree fixed nums marks limit count at out five nums₄ marks₅ (Some end)
             test_done end e marks₅ size₅ unmarks₅ =
                 let k : (nums₄ ≡ nums₂) × (marks₄ ≡ dropped) × (next ≤ end) × (end ≤ limit + 5000) = rw e at no.1 in (
                   λ book. test_told book fixed nums marks limit count at out t.first t.none_open id t.is t.some_left m real struck strikes next two three four second_is (rw is_done at (at_front book)) fourth_is dropped drops_entry end five

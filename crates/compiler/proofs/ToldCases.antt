@@ -7,9 +7,7 @@ use Prim.Native.Nat.{ℕ, zero, suc, ◌+◌, ◌*◌, ◌≤◌, ◌<◌}
 use native.Mathlib.Omega.{arith}
 use lib.ListN.{length, set}
 use lib.Seq.{get_or-set_other}
-use Rattle.term.specs.declared.renumber.Passed.{Passed}
-use Rattle.term.specs.declared.renumber.Passed.TheVariants.{Done, Stuck}
-use Rattle.term.specs.declared.check.Checked.TheVariants.{Good}
+use Rattle.std.specs.Prelude.{Option as StdOption, Some, None, Ok}
 use Rattle.term.specs.Word.{Head, word, count_of, InTable}
 use Rattle.term.specs.Word as words
 use Rattle.term.proofs.Laws.{never, count_word_lem}
@@ -40,7 +38,7 @@ in_table left p h f e =
     let w : Full (part h x.kids x.rest) = rw x.is at (full_at left p f) in
     w.0
 
-rows_tables : (book marks : List ℕ) (p : Place) → check_book book ≡ Good → (more r : ℕ) → InTables (heads p (rows_left book marks r more))
+rows_tables : (book marks : List ℕ) (p : Place) → check_book book ≡ Ok tt → (more r : ℕ) → InTables (heads p (rows_left book marks r more))
 unfolding rows_left
 rows_tables book marks p accepted zero r = tables_none p
 rows_tables book marks p accepted (suc more) r = go (is_free marks r) (rule_at book r) refl (rows_tables book marks p accepted more (suc r))
@@ -109,13 +107,13 @@ module _ (book fixed nums marks : List ℕ) (count n w m : ℕ) (real : m ≡ 0 
     tree_is : (path : OnPath) (c : CaseIs path) → compile (entering n c.head path) (rows_left book (set struck (64 + n) m) 0 64) ≡ case_tree book marks n path c.head
     tree_is path c = ap (compile (entering n c.head path)) c.rows
 
-    pub case_told : (a : ℕ) → TreeTold book fixed (rows_numbered fixed struck n count 0 64 nums) (set struck (64 + n) m) limit (count + count_of w) at out done (Done a) → CaseTold book fixed nums marks limit count at n w out done (Done a)
+    pub case_told : (a : ℕ) → TreeTold book fixed (rows_numbered fixed struck n count 0 64 nums) (set struck (64 + n) m) limit (count + count_of w) at out done (Some a) → CaseTold book fixed nums marks limit count at n w out done (Some a)
     unfolding TreeTold OneTold
     case_told a told path s h e t =
         let c = case_is path s in
         rw (same_case path c h e t) (rw (tree_is path c) at (told (entering n c.head path) c.stands))
 
-    pub case_stuck : TreeTold book fixed (rows_numbered fixed struck n count 0 64 nums) (set struck (64 + n) m) limit (count + count_of w) at out done Stuck → CaseTold book fixed nums marks limit count at n w out done Stuck
+    pub case_stuck : TreeTold book fixed (rows_numbered fixed struck n count 0 64 nums) (set struck (64 + n) m) limit (count + count_of w) at out done None → CaseTold book fixed nums marks limit count at n w out done None
     unfolding TreeTold OneTold
     case_stuck told path s h e t =
         let c = case_is path s in
@@ -125,7 +123,7 @@ module _ (book fixed nums marks : List ℕ) (count n w m : ℕ) (real : m ≡ 0 
 abbrev pub cases_for : List ℕ → List ℕ → ℕ → OnPath → List Head → Cases
 cases_for book marks n path hs = cases_of compile path (rows_left book marks 0 64) n hs
 
-abbrev pub SwitchLeft : List ℕ → List ℕ → List ℕ → List ℕ → ℕ → ℕ → ℕ → ℕ → ℕ → ℕ → List ℕ → List ℕ → Passed → Type 0
+abbrev pub SwitchLeft : List ℕ → List ℕ → List ℕ → List ℕ → ℕ → ℕ → ℕ → ℕ → ℕ → ℕ → List ℕ → List ℕ → StdOption ℕ → Type 0
 SwitchLeft book fixed nums marks limit count n r to a out done x = CasesLeft (Stands book fixed nums marks count) (cases_for book marks n) (new_head fixed nums marks n) 64 limit r to a out done x
 
 pub none_case : (book marks : List ℕ) (n : ℕ) (path : OnPath) → cases_for book marks n path [] ≡ NoCase
@@ -142,7 +140,7 @@ switch_many book fixed nums marks count path s n known =
     sym (words_many (heads (place_numbered n path.uncovered) (rows_left book marks 0 64))) ∙ ap length (new_heads book fixed nums marks count path s n known) ∙ sym (heads_counted fixed nums marks n)
 
 -- THE LAW of the cases: from the first row on they are the Switch's
-pub cases_told : (book fixed nums marks : List ℕ) (limit count slot at n : ℕ) (out done : List ℕ) (v : Passed) → n < count → slot + 1 + 2 * count_heads fixed nums marks n ≡ at
+pub cases_told : (book fixed nums marks : List ℕ) (limit count slot at n : ℕ) (out done : List ℕ) (v : StdOption ℕ) → n < count → slot + 1 + 2 * count_heads fixed nums marks n ≡ at
     → SwitchLeft book fixed nums marks limit count n 0 slot at out done v → CasesTold book fixed nums marks limit count slot at n out done v
 cases_told book fixed nums marks limit count slot at n out done v known room told =
     all_told (Stands book fixed nums marks count) (cases_for book marks n) (new_head fixed nums marks n) 64 limit slot at out done v (λ path. heads (place_numbered n path.uncovered) (rows_left book marks 0 64))

@@ -6,7 +6,7 @@ use Prim.Native.Nat.{ℕ, suc, ◌+◌, ◌*◌, ◌≤◌, ◌<◌}
 use native.Mathlib.Omega.{arith}
 use lib.ListN.{length, set}
 use lib.Seq.{sets}
-use Rattle.term.specs.declared.renumber.Passed.TheVariants.{Done, Stuck}
+use Rattle.std.specs.Prelude.{Some, None}
 use Rattle.fit.specs.Constraint.{Constraint}
 use Rattle.fit.specs.Match.{left_in}
 use Rattle.tree.specs.Path.{OnPath}
@@ -57,18 +57,18 @@ module _ (book fixed nums marks : List ℕ) (count : ℕ) (path : OnPath) (s : S
 
 -- ---- THE LAWS: one for each node
 module _ (book fixed nums marks : List ℕ) (limit count at : ℕ) (out : List ℕ) where
-  pub full_told : (done : List ℕ) → limit ≤ at → TreeTold book fixed nums marks limit count at out done Stuck
+  pub full_told : (done : List ℕ) → limit ≤ at → TreeTold book fixed nums marks limit count at out done None
   unfolding TreeTold
   full_told done h path s = omega (arith, h, long_some (compile path (rows_left book marks 0 64)))
 
-  pub fail_told : 64 ≤ first_row marks → (done : List ℕ) (a : ℕ) → done ≡ set out at 0 → a ≡ at + 1 → TreeTold book fixed nums marks limit count at out done (Done a)
+  pub fail_told : 64 ≤ first_row marks → (done : List ℕ) (a : ℕ) → done ≡ set out at 0 → a ≡ at + 1 → TreeTold book fixed nums marks limit count at out done (Some a)
   unfolding TreeTold
   fail_told h done a e z path s =
       let c = compile_none path (rows_left book marks 0 64) (no_rows book marks s.absent h) in
       (rw (c, fail_long) z, rw (c, fail_layout at) e)
 
   pub leaf_told : first_row marks < 64 → lowest_from fixed nums marks (first_row marks * 64) 64 0 ≡ 0 → first_constraint fixed marks (first_row marks) ≡ 0 → (done : List ℕ) (a : ℕ)
-      → done ≡ sets out at (leaf_words fixed nums marks (first_row marks)) → a ≡ at + length (leaf_words fixed nums marks (first_row marks)) → TreeTold book fixed nums marks limit count at out done (Done a)
+      → done ≡ sets out at (leaf_words fixed nums marks (first_row marks)) → a ≡ at + length (leaf_words fixed nums marks (first_row marks)) → TreeTold book fixed nums marks limit count at out done (Some a)
   unfolding TreeTold
   leaf_told h l q done a e z path s =
       let f = first_row_lem book fixed nums marks count path s h in
@@ -114,22 +114,22 @@ module _ (book fixed nums marks : List ℕ) (limit count at : ℕ) (out : List �
         ∙ (test_laid t.c path.uncovered (compile (holding t.c path) (rows_left book struck 0 64)) (compile path (rows_without t.c path (rows_left book marks 0 64))) at).1
         ∙ rw t.front
 
-    pub yes_stuck : (two three done : List ℕ) → TreeTold book fixed nums struck limit count (slot + 2) two three Stuck → TreeTold book fixed nums marks limit count at out done Stuck
+    pub yes_stuck : (two three done : List ℕ) → TreeTold book fixed nums struck limit count (slot + 2) two three None → TreeTold book fixed nums marks limit count at out done None
     unfolding TreeTold
     yes_stuck two three done told path s =
         let t = tested path s in
         omega (arith, test_long path t, told (holding t.c path) t.yes_stands)
 
-    module _ (next : ℕ) (two three four : List ℕ) (second : two ≡ set (sets out at (front_words fixed nums id)) slot (slot + 2)) (yes : TreeTold book fixed nums struck limit count (slot + 2) two three (Done next))
+    module _ (next : ℕ) (two three four : List ℕ) (second : two ≡ set (sets out at (front_words fixed nums id)) slot (slot + 2)) (yes : TreeTold book fixed nums struck limit count (slot + 2) two three (Some next))
         (fourth : four ≡ set three (slot + 1) next) (dropped : List ℕ) (drops : Changed (struck_rows (row_has fixed nums marks id) m) marks dropped) where
-      pub no_stuck : (five done : List ℕ) → TreeTold book fixed nums dropped limit count next four five Stuck → TreeTold book fixed nums marks limit count at out done Stuck
+      pub no_stuck : (five done : List ℕ) → TreeTold book fixed nums dropped limit count next four five None → TreeTold book fixed nums marks limit count at out done None
       unfolding TreeTold
       no_stuck five done told path s =
           let t = tested path s in
           let n : limit < next + long (compile path (rows_without t.c path (rows_left book marks 0 64))) = rw (t.no_rows_are dropped drops) at (told path (t.no_stands dropped drops)) in
           omega (arith, test_long path t, (yes (holding t.c path) t.yes_stands).0, n)
 
-      pub test_told : (end : ℕ) (five : List ℕ) → TreeTold book fixed nums dropped limit count next four five (Done end) → TreeTold book fixed nums marks limit count at out five (Done end)
+      pub test_told : (end : ℕ) (five : List ℕ) → TreeTold book fixed nums dropped limit count next four five (Some end) → TreeTold book fixed nums marks limit count at out five (Some end)
       unfolding TreeTold
       test_told end five told path s =
           let t = tested path s in

@@ -7,7 +7,7 @@ use Prim.Native.Nat.{ℕ, suc, ◌+◌, ◌*◌, ◌≤◌, ◌<◌}
 use native.Mathlib.Omega.{arith}
 use lib.ListN.{get_or, set}
 use lib.Seq.{sets}
-use Rattle.term.specs.declared.renumber.Passed.TheVariants.{Done, Stuck}
+use Rattle.std.specs.Prelude.{Some, None}
 use Rattle.tree.specs.Tree.{Tree, Switch}
 use Rattle.tree.specs.Path.{OnPath, place_numbered}
 use Rattle.tree.specs.Compile.{heads, default_rows, compile}
@@ -58,12 +58,12 @@ module _ (book fixed nums marks : List ℕ) (limit count at : ℕ) (out : List �
   long_is path i = ap long i.whole ∙ switch_long n (switch_cases book marks n path) (default_tree path) ∙ rw i.many
 
   module _ (first : ℕ) (from : first ≡ at + 4 + 2 * count_heads fixed nums marks n) where
-    pub cases_over : (three four done : List ℕ) → CasesTold book fixed nums marks limit count (at + 3) first n three four Stuck → TreeTold book fixed nums marks limit count at out done Stuck
+    pub cases_over : (three four done : List ℕ) → CasesTold book fixed nums marks limit count (at + 3) first n three four None → TreeTold book fixed nums marks limit count at out done None
     unfolding TreeTold AllTold
     cases_over three four done told path s = omega (arith, from, long_is path (switch_is path s), told path s)
 
     module _ (b : ℕ) (one two three four : List ℕ) (p : one ≡ set out at 2) (q : two ≡ set one (at + 1) n) (r : three ≡ set two (at + 2) (count_heads fixed nums marks n))
-        (cases : CasesTold book fixed nums marks limit count (at + 3) first n three four (Done b))
+        (cases : CasesTold book fixed nums marks limit count (at + 3) first n three four (Some b))
         (m : ℕ) (real : m ≡ 0 → ⊥) (dropped : List ℕ) (drops : Changed (struck_rows (has_other fixed nums n 33554432) m) marks dropped) where
       stands : (path : OnPath) → Stands book fixed nums marks count path → Stands book fixed nums dropped count path
       stands path s = struck_stands book fixed nums marks count path s (has_other fixed nums n 33554432) m dropped real drops
@@ -71,13 +71,13 @@ module _ (book fixed nums marks : List ℕ) (limit count at : ℕ) (out : List �
       default_is : (path : OnPath) → Stands book fixed nums marks count path → compile path (rows_left book dropped 0 64) ≡ default_tree path
       default_is path s = ap (compile path) (default_left book fixed nums marks count path s n (switch_is path s).known m dropped real drops)
 
-      pub default_over : (five done : List ℕ) → TreeTold book fixed nums dropped limit count b four five Stuck → TreeTold book fixed nums marks limit count at out done Stuck
+      pub default_over : (five done : List ℕ) → TreeTold book fixed nums dropped limit count b four five None → TreeTold book fixed nums marks limit count at out done None
       unfolding TreeTold AllTold
       default_over five done told path s =
           let d : limit < b + long (default_tree path) = rw (default_is path s) at (told path (stands path s)) in
           omega (arith, from, long_is path (switch_is path s), (cases path s).0, d)
 
-      pub switch_told : (end : ℕ) (five : List ℕ) → TreeTold book fixed nums dropped limit count b four five (Done end) → TreeTold book fixed nums marks limit count at out five (Done end)
+      pub switch_told : (end : ℕ) (five : List ℕ) → TreeTold book fixed nums dropped limit count b four five (Some end) → TreeTold book fixed nums marks limit count at out five (Some end)
       unfolding TreeTold AllTold
       switch_told end five told path s = whole path (switch_is path s) (cases path s) (rw (default_is path s) at (told path (stands path s)))
         where

@@ -5,11 +5,13 @@ use mathlib.Core.List.{List, [], ◌∷◌, ◌++◌}
 use Prim.Native.Nat.{ℕ, zero, suc, ◌+◌, ◌-◌, ◌*◌, ◌≤◌, ◌<◌}
 use native.Mathlib.Omega.{arith}
 use lib.Dec.{ltb}
-use lib.ListN.{length, get_or, set, length-append}
-use lib.Seq.{sets}
+use lib.ListN.{length, get_or, set, drop, length-append}
+use lib.Seq.{sets, get_or-drop}
 use borrow.Author.Tests.{lt-ltb, le-ltb, ltb-true}
 use Rattle.term.specs.Word.{pick, ident_of}
-use Rattle.compiler.specs.Told.Tables.{first_at, is_variable, listed, size_at, ids_from, ids_at, number_at, occurrence_words, variable_spot, leaf_from, aside_at, leaf_words, same_words_of, front_words, first_spot}
+use Rattle.std.proofs.lemmas.List.{length-take-le, get_or-take}
+use Rattle.std.proofs.Common.{length-drop}
+use Rattle.compiler.specs.Told.Tables.{words_at, first_at, is_variable, listed, size_at, ids_from, ids_at, number_at, occurrence_words, variable_spot, leaf_from, aside_at, leaf_words, same_words_of, front_words, first_spot}
 
 -- words are set one after the other
 pub sets_join : (us vs l : List ℕ) (i : ℕ) → sets l i (us ++ vs) ≡ sets (sets l i us) (i + length us) vs
@@ -38,17 +40,15 @@ pub ids_end : (fixed : List ℕ) (k at j m : ℕ) (out all : List ℕ) → all �
 unfolding ids_from
 ids_end fixed k at j m out all e h = sym (rw h at e)
 
+pub words_long : (fixed : List ℕ) (k : ℕ) → k + 1 + size_at fixed k ≤ length fixed → length (words_at fixed k) ≡ size_at fixed k
+words_long fixed k h = length-take-le (size_at fixed k) (drop (k + 1) fixed) (omega (arith, length-drop (k + 1) fixed))
+
+pub words_listed : (fixed : List ℕ) (k j : ℕ) → j < size_at fixed k → get_or (words_at fixed k) j 0 ≡ listed fixed k j
+words_listed fixed k j h = get_or-take (size_at fixed k) (drop (k + 1) fixed) j 0 h ∙ get_or-drop (k + 1) fixed j 0
+
 -- ---- the first spot of a variable
 abbrev pub variable_in : List ℕ → ℕ → ℕ → ℕ → Bool
 variable_in fixed r x o = is_variable fixed x (r * 64 + o)
-
-pub variable_found : (fixed : List ℕ) (r x o : ℕ) → o < 64 → first_at (variable_in fixed r x) 0 64 ≡ o → r * 64 + o ≡ variable_spot fixed r x
-unfolding variable_spot
-variable_found fixed r x o h e = sym (rw (e, lt-ltb o 64 h))
-
-pub variable_nowhere : (fixed : List ℕ) (r x : ℕ) → first_at (variable_in fixed r x) 0 64 ≡ 64 → r * 64 ≡ variable_spot fixed r x
-unfolding variable_spot
-variable_nowhere fixed r x e = sym (rw e)
 
 pub variable_within : (fixed : List ℕ) (r x : ℕ) → r < 64 → variable_spot fixed r x < 4096
 unfolding variable_spot
@@ -71,11 +71,6 @@ pub record Leafing (fixed nums out₀ : List ℕ) (at r vars : ℕ) (out : List 
   pub small : a ≤ at + 257 * x
   pub wrote : sets out₀ at (leaf_from fixed nums r 0 vars) ≡ sets out a (leaf_from fixed nums r x (vars - x))
   pub long : a + length (leaf_from fixed nums r x (vars - x)) ≡ at + length (leaf_from fixed nums r 0 vars)
-
-pub leaf_start : (fixed nums out : List ℕ) (at r vars : ℕ) → Leafing fixed nums out at r vars out at 0
-leaf_start fixed nums out at r vars =
-    let o : vars - 0 ≡ vars = omega arith in
-    record { within = omega arith; small = omega arith; wrote = rw o; long = rw o }
 
 pub leaf_next : (fixed nums out₀ : List ℕ) (at r vars : ℕ) (out : List ℕ) (a x : ℕ) → Leafing fixed nums out₀ at r vars out a x → x < vars → (k : ℕ) → k ≡ variable_spot fixed r x
     → (next : List ℕ) (b : ℕ) → next ≡ sets out a (occurrence_words fixed nums k) → b ≡ a + 2 + size_at fixed k → Leafing fixed nums out₀ at r vars next b (x + 1)
@@ -141,9 +136,3 @@ front_same fixed nums out at id f a b c d e done n m g h i z g1 h1 p q r s t u v
     rw (le-ltb id 8256 i, ← z) (sym (o ∙ j), omega (arith, w, l, length_ids fixed k 0 (size_at fixed k), length-append (ids_at fixed f) (ids_at fixed k)))
 
 -- ---- an occurrence
-pub occurrence_put : (fixed nums out : List ℕ) (at k n : ℕ) (a b c : List ℕ) → n ≡ number_at nums k → a ≡ set out at n → b ≡ set a (at + 1) (size_at fixed k) → c ≡ sets b (at + 2) (ids_at fixed k)
-    → c ≡ sets out at (occurrence_words fixed nums k)
-occurrence_put fixed nums out at k n a b c z p q r =
-    let x : at + 1 ≡ suc at = omega arith in
-    let y : at + 2 ≡ suc (suc at) = omega arith in
-    r ∙ rw (q, p, z, x, y)

@@ -2,6 +2,7 @@
 #![tactic(auto)]
 
 pub mod compile;
+mod constraint;
 mod constraints;
 mod heads;
 mod load;

@@ -8,7 +8,7 @@ use native.Mathlib.Omega.{arith}
 use lib.Dec.{eqb, ltb}
 use lib.ListN.{get_or}
 use borrow.Author.Tests.{eqb-true, eq-eqb, ltb-true}
-use Rattle.term.specs.declared.check.Checked.TheVariants.{Good}
+use Rattle.std.specs.Prelude.{Ok}
 use Rattle.term.specs.Word.{Head, symbol, abstraction, variable, pattern, count}
 use Rattle.term.specs.Row.{Row, nothing, node, width, words, nesting, Formed, read}
 use Rattle.term.specs.Check.{Limits, IsTree, IsTerm}
@@ -157,7 +157,7 @@ rule_good rule f =
     })
 
 -- ---- every rule of an accepted book
-module _ (book : List ℕ) (accepted : check_book book ≡ Good) where
+module _ (book : List ℕ) (accepted : check_book book ≡ Ok tt) where
   pub accepted_good : (number : ℕ) (rule : Rule) → rule_at book number ≡ some rule → GoodRule rule.vars (left_in rule)
   accepted_good number rule e = rule_good rule (book_rule book number rule accepted e)
 

@@ -52,9 +52,6 @@ present_later x l m e = present_join x l m ∙ rw e (go (present x l))
     go true = refl
     go false = refl
 
-present_first : (x : ℕ) (l m : Found) → present x l ≡ true → present x (l ++ m) ≡ true
-present_first x l m e = present_join x l m ∙ rw e
-
 all_later : (l k m : Found) → AllPresent m k → AllPresent (l ++ m) k
 all_later l [] m a = tt
 all_later l (p ∷ k) m a = (present_later p.0 l m a.0, all_later l k m a.1)

@@ -7,10 +7,10 @@ use native.Mathlib.Omega.{arith}
 use native.Mathlib.Nat.{zero-add, add-zero, suc-add, add-suc}
 use native.Mathlib.Numerals.{add-one}
 use lib.Dec.{eqb}
-use lib.ListN.{length, get_or, take, drop, replicate, length-append, length-drop, length-replicate, take-append-drop}
+use lib.ListN.{length, get_or, take, drop, replicate, length-append, length-drop, take-append-drop}
 use lib.Seq.{take-add, drop-drop, drop-cons, drop_at, take_at, take_all, length-take-le, get_or-drop}
 use borrow.Author.Tests.{eqb-true, eq-eqb}
-use Rattle.term.specs.declared.check.Checked.TheVariants.{Good}
+use Rattle.std.specs.Prelude.{Ok}
 use Rattle.term.specs.Row.{Row, words}
 use Rattle.term.specs.Check.{check, term_limits}
 use Rattle.term.proofs.Laws.{and_left, and_right}
@@ -116,10 +116,6 @@ module _ (vars : ℕ) (b : ℕ → Row) (few : vars ≤ 16) where
   abbrev lengths : List ℕ
   lengths = length_list b 0 vars ++ replicate (16 - vars) 0
 
-  pub length_sixteen : length lengths ≡ 16
-  length_sixteen =
-      omega (arith, length-append (length_list b 0 vars) (replicate (16 - vars) 0), length_list_lem b vars 0, length-replicate {A = ℕ} (16 - vars) 0)
-
   at_variable : (x : ℕ) → x < vars → get_or lengths x 0 ≡ length (words (b x))
   at_variable x h = list_at b vars 0 x (replicate (16 - vars) 0) h ∙ ap (λ (k : ℕ). length (words (b k))) (zero-add x)
 
@@ -147,12 +143,12 @@ module _ (vars : ℕ) (b : ℕ → Row) (few : vars ≤ 16) where
       let d : drop (start_of lengths x) bodies ≡ words (b x) ++ body_list b (suc x) (vars - suc x) = ap (drop (start_of lengths x)) e ∙ drop_at (body_list b 0 x) (words (b x) ++ body_list b (suc x) (vars - suc x)) (start_of lengths x) (sym (starts x (omega (arith, h)))) in
       ap (take (get_or lengths x 0)) d ∙ take_at (words (b x)) (body_list b (suc x) (vars - suc x)) (get_or lengths x 0) (sym (at_variable x h))
 
-  judged : ((x : ℕ) → x < vars → check term_limits (words (b x)) ≡ Good) → (more x : ℕ) → x + more ≤ vars → check_bodies bodies lengths x more ≡ Good
+  judged : ((x : ℕ) → x < vars → check term_limits (words (b x)) ≡ Ok tt) → (more x : ℕ) → x + more ≤ vars → check_bodies bodies lengths x more ≡ Ok tt
   unfolding check_bodies
   judged good zero x h = refl
   judged good (suc more) x h =
-      let c : check term_limits (words_at bodies lengths x) ≡ Good = ap (check term_limits) (list_words x (omega (arith, h))) ∙ good x (omega (arith, h)) in
+      let c : check term_limits (words_at bodies lengths x) ≡ Ok tt = ap (check term_limits) (list_words x (omega (arith, h))) ∙ good x (omega (arith, h)) in
       rw c (judged good more (suc x) (omega (arith, h)))
 
-  pub list_bodies : ((x : ℕ) → x < vars → check term_limits (words (b x)) ≡ Good) → check_bodies bodies lengths 0 vars ≡ Good
+  pub list_bodies : ((x : ℕ) → x < vars → check term_limits (words (b x)) ≡ Ok tt) → check_bodies bodies lengths 0 vars ≡ Ok tt
   list_bodies good = judged good vars 0 (omega arith)

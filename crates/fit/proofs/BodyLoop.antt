@@ -5,13 +5,13 @@ use mathlib.Core.List.{List, [], ◌++◌}
 use Prim.Native.Nat.{ℕ, ◌+◌, ◌-◌, ◌≤◌, ◌<◌}
 use native.Mathlib.Omega.{arith}
 use lib.ListN.{length, length-set, take, set, replicate}
-use Rattle.term.specs.declared.renumber.Passed.TheVariants as step
+use Rattle.std.specs.Prelude.{Some, None}
 use Rattle.fit.specs.Fit.{Found, body_in}
 use Rattle.fit.specs.Told.Told.{present, Knows, FirstWritten, BodiesTold}
 use Rattle.fit.proofs.InOrder.{SoMany, joined_long, many_start, many_short, many_done, many_more}
 
 -- what is written of a body is no more than the slice or the term has
-pub written_within : (left term table : List ℕ) (x : ℕ) (out done : List ℕ) (n : ℕ) → FirstWritten left term table x out done (step.Done n) → (n ≤ length out) × (n ≤ length term)
+pub written_within : (left term table : List ℕ) (x : ℕ) (out done : List ℕ) (n : ℕ) → FirstWritten left term table x out done (Some n) → (n ≤ length out) × (n ≤ length term)
 unfolding FirstWritten
 written_within left term table x out done n w = (w.0, w.1)
 
@@ -35,7 +35,7 @@ module _ (vars : ℕ) (left term table : List ℕ) (room : ℕ) (few : vars ≤ 
 
   module _ (bodies lengths : List ℕ) (at x : ℕ) (s : SoFar vars left term table room bodies lengths at x) where
     -- where the body of the next variable finds no room, all bodies find none
-    pub bodies_short : x < vars → (out part : List ℕ) → length out ≡ room - at → FirstWritten left term table x out part step.Stuck
+    pub bodies_short : x < vars → (out part : List ℕ) → length out ≡ room - at → FirstWritten left term table x out part None
         → (cleared zeros : List ℕ) → cleared ≡ replicate room 0 → zeros ≡ replicate 16 0 → BodiesTold vars left term table room cleared zeros false
     unfolding BodiesTold FirstWritten
     bodies_short h out part o w cleared zeros c z l k p n =
@@ -48,7 +48,7 @@ module _ (vars : ℕ) (left term table : List ℕ) (room : ℕ) (few : vars ≤ 
 
     -- the body of the next variable behind the others
     pub bodies_more : x < vars → (out part post : List ℕ) (n : ℕ) → length out ≡ room - at → length part ≡ length out → post ≡ []
-        → FirstWritten left term table x out part (step.Done n) → SoFar vars left term table room (take at bodies ++ (part ++ post)) (set lengths x n) (at + n) (x + 1)
+        → FirstWritten left term table x out part (Some n) → SoFar vars left term table room (take at bodies ++ (part ++ post)) (set lengths x n) (at + n) (x + 1)
     unfolding FirstWritten
     bodies_more h out part post n o long nothing-after w =
         record {

@@ -8,8 +8,7 @@ use native.Mathlib.Omega.{arith}
 use lib.ListN.{length, take, drop, replicate}
 use lib.Seq.{sets}
 use borrow.Author.Tests.{le-leb, lt-leb}
-use Rattle.term.specs.declared.check.Checked.{Checked}
-use Rattle.term.specs.declared.check.Checked.TheVariants.{Good, Bad}
+use Rattle.std.specs.Prelude.{Result, Ok, Err, Some, None}
 use Rattle.term.specs.declared.answer.Answer.{Answer}
 use Rattle.term.specs.declared.answer.Answer.TheVariants as answer
 use Rattle.term.specs.Answer.{answered}
@@ -17,14 +16,11 @@ use Rattle.term.specs.Word.{pick}
 use Rattle.term.specs.Row.{Row, width, words, ranks, nesting, Formed}
 use Rattle.term.specs.Check.{check, term_limits}
 use Rattle.term.proofs.Laws.{good_tree, wrote, no_room}
-use Rattle.book.specs.declared.accept.Accepted.TheVariants.{Sound, Refused}
 use Rattle.book.specs.Book.{Rule, check_book, rule_at}
 use Rattle.book.specs.Accept.{accept}
 use Rattle.book.specs.Told.Found.{sides_at}
 use Rattle.book.specs.declared.book.Sides.{Sides}
-use Rattle.book.specs.declared.book.Found.TheVariants as sides
 use Rattle.book.proofs.Laws.{book_rule, sides_rule}
-use Rattle.fit.specs.declared.fitting.Both.TheVariants.{Done, Stuck}
 use Rattle.fit.specs.Fit.{build, IsBody}
 use Rattle.fit.specs.Match.{tree_of, left_in}
 use Rattle.fit.specs.Told.Told.{LeftStands}
@@ -40,7 +36,7 @@ use Rattle.fit.proofs.Asked.{sound_good, build_refused, build_unknown, build_wro
 use Rattle.fit.proofs.Outcomes.{BuildAnswered, build_came}
 
 -- ---- a body that was judged good
-pub given_body : (bodies lengths : List ℕ) (x : ℕ) → check term_limits (words_at bodies lengths x) ≡ Good → IsBody (given_bodies bodies lengths x)
+pub given_body : (bodies lengths : List ℕ) (x : ℕ) → check term_limits (words_at bodies lengths x) ≡ Ok tt → IsBody (given_bodies bodies lengths x)
 unfolding given_bodies
 given_body bodies lengths x c =
     let i = good_tree term_limits (omega arith) (words_at bodies lengths x) c in
@@ -61,19 +57,19 @@ unfolding build_answer build_words
 short_is room b t done e h z = rw (e, lt-leb (length (words t)) room h) (refl, z ∙ (no_room room (words t) h).1)
 
 module _ (book : List ℕ) (number : ℕ) (bodies lengths : List ℕ) (room : ℕ) (done : List ℕ) (z : done ≡ replicate room 0) where
-  pub bad_book : (a : Answer) → accept book ≡ Refused a → build_left_came (answered a) done ≡ build_left_gives book number bodies lengths room
+  pub bad_book : (a : Answer) → accept book ≡ Err a → build_left_came (answered a) done ≡ build_left_gives book number bodies lengths room
   bad_book a e =
       build_came book number bodies lengths room a done (refused_is room (build_left book number bodies lengths) a done (build_refused book number bodies lengths a e) z)
 
-  pub no_rule : accept book ≡ Sound → rule_at book number ≡ none → build_left_came (answered (answer.NoRule number)) done ≡ build_left_gives book number bodies lengths room
+  pub no_rule : accept book ≡ Ok tt → rule_at book number ≡ none → build_left_came (answered (answer.NoRule number)) done ≡ build_left_gives book number bodies lengths room
   no_rule g e =
       build_came book number bodies lengths room (answer.NoRule number) done
       (refused_is room (build_left book number bodies lengths) (answer.NoRule number) done (build_unknown book number bodies lengths g e) z)
 
-module _ (book : List ℕ) (number : ℕ) (rule : Rule) (accepted : accept book ≡ Sound) (found : rule_at book number ≡ some rule) (bodies lengths : List ℕ) where
+module _ (book : List ℕ) (number : ℕ) (rule : Rule) (accepted : accept book ≡ Ok tt) (found : rule_at book number ≡ some rule) (bodies lengths : List ℕ) where
   module _ (lengths_good : good_lengths rule.vars bodies lengths ≡ true) where
-    module _ (bodies_good : check_bodies bodies lengths 0 rule.vars ≡ Good) where
-      good_book : check_book book ≡ Good
+    module _ (bodies_good : check_bodies bodies lengths 0 rule.vars ≡ Ok tt) where
+      good_book : check_book book ≡ Ok tt
       good_book = sound_good book accepted
 
       asked : build_left book number bodies lengths ≡ limited (build (given_bodies bodies lengths) 0 (left_in rule))
@@ -119,7 +115,7 @@ module _ (book : List ℕ) (number : ℕ) (rule : Rule) (accepted : accept book 
 
       -- what the walk told of the whole left side
       module _ (out done : List ℕ) where
-        told_over : LeftBuilt 0 64 1 rule.left 0 bodies lengths out 0 done Stuck → build_left book number bodies lengths ≡ refused answer.Over
+        told_over : LeftBuilt 0 64 1 rule.left 0 bodies lengths out 0 done None → build_left book number bodies lengths ≡ refused answer.Over
         unfolding LeftBuilt left_in
         told_over told =
             let t = told rule.vars (tree_of rule.left) [] stands given (omega arith) in
@@ -130,7 +126,7 @@ module _ (book : List ℕ) (number : ℕ) (rule : Rule) (accepted : accept book 
           long : n ≡ length (words result)
           done_is : done ≡ sets out 0 (words result)
 
-        told_built : (a n : ℕ) → LeftBuilt 0 64 1 rule.left 0 bodies lengths out 0 done (Done a n) → Raised n
+        told_built : (a n : ℕ) → LeftBuilt 0 64 1 rule.left 0 bodies lengths out 0 done (Some (a, n)) → Raised n
         unfolding LeftBuilt left_in
         told_built a n told =
             let t = (told rule.vars (tree_of rule.left) [] stands given (omega arith)).1 in
@@ -145,37 +141,37 @@ module _ (vars : ℕ) (left bodies lengths : List ℕ) (room : ℕ) where
 
   module _ (good : good_lengths vars bodies lengths ≡ true) where
     -- the lengths sum to the bodies
-    judged : (c : Checked) → (start_of lengths 16 ≡ length bodies → c ≡ check_bodies bodies lengths 0 vars) → check_bodies bodies lengths 0 vars ≡ c
+    judged : (c : Result (Unit {0}) ℕ) → (start_of lengths 16 ≡ length bodies → c ≡ check_bodies bodies lengths 0 vars) → check_bodies bodies lengths 0 vars ≡ c
     judged c e = sym (e (sum_lengths vars bodies lengths good).0)
 
-    pub rule_body : (x : ℕ) → (start_of lengths 16 ≡ length bodies → Bad x ≡ check_bodies bodies lengths 0 vars) → (done : List ℕ) → done ≡ replicate room 0
+    pub rule_body : (x : ℕ) → (start_of lengths 16 ≡ length bodies → Err x ≡ check_bodies bodies lengths 0 vars) → (done : List ℕ) → done ≡ replicate room 0
         → RuleBuilt vars left bodies lengths room (answer.BadTerm x) done
     unfolding RuleBuilt
     rule_body x e done z book number rule a f v l =
-        refused_is room (build_left book number bodies lengths) (answer.BadTerm x) done (build_wrong_body book number bodies lengths a rule f (rw v good) x (rw v (judged (Bad x) e))) z
+        refused_is room (build_left book number bodies lengths) (answer.BadTerm x) done (build_wrong_body book number bodies lengths a rule f (rw v good) x (rw v (judged (Err x) e))) z
 
-    module _ (e : start_of lengths 16 ≡ length bodies → Good ≡ check_bodies bodies lengths 0 vars) (out done : List ℕ) where
-      pub rule_over : LeftBuilt 0 64 1 left 0 bodies lengths out 0 done Stuck → (last : List ℕ) → last ≡ replicate room 0 → RuleBuilt vars left bodies lengths room answer.Over last
+    module _ (e : start_of lengths 16 ≡ length bodies → Ok tt ≡ check_bodies bodies lengths 0 vars) (out done : List ℕ) where
+      pub rule_over : LeftBuilt 0 64 1 left 0 bodies lengths out 0 done None → (last : List ℕ) → last ≡ replicate room 0 → RuleBuilt vars left bodies lengths room answer.Over last
       unfolding RuleBuilt
       rule_over told last z book number rule a f v l =
           refused_is room (build_left book number bodies lengths) answer.Over last
-          (told_over book number rule a f bodies lengths (rw v good) (rw v (judged Good e)) out done (rw l told)) z
+          (told_over book number rule a f bodies lengths (rw v good) (rw v (judged (Ok tt) e)) out done (rw l told)) z
 
-      module _ (a n : ℕ) (told : LeftBuilt 0 64 1 left 0 bodies lengths out 0 done (Done a n)) where
+      module _ (a n : ℕ) (told : LeftBuilt 0 64 1 left 0 bodies lengths out 0 done (Some (a, n))) where
         pub rule_wrote : out ≡ replicate room 0 → n ≤ room → RuleBuilt vars left bodies lengths room answer.Done done
         unfolding RuleBuilt
         rule_wrote z h book number rule g f v l =
-            let t = told_built book number rule g f bodies lengths (rw v good) (rw v (judged Good e)) out done a n (rw l told) in
+            let t = told_built book number rule g f bodies lengths (rw v good) (rw v (judged (Ok tt) e)) out done a n (rw l told) in
             built_is room (build_left book number bodies lengths) _ done t.is (omega (arith, h, t.long)) (rw z at t.done_is)
 
         pub rule_short : room < n → (last : List ℕ) → last ≡ replicate room 0 → RuleBuilt vars left bodies lengths room answer.Short last
         unfolding RuleBuilt
         rule_short h last z book number rule g f v l =
-            let t = told_built book number rule g f bodies lengths (rw v good) (rw v (judged Good e)) out done a n (rw l told) in
+            let t = told_built book number rule g f bodies lengths (rw v good) (rw v (judged (Ok tt) e)) out done a n (rw l told) in
             short_is room (build_left book number bodies lengths) _ last t.is (omega (arith, h, t.long)) z
 
 -- the rule that was found in the book
-module _ (book : List ℕ) (number : ℕ) (accepted : accept book ≡ Sound) (s : Sides) (found : sides_at book number ≡ sides.Rule s) where
+module _ (book : List ℕ) (number : ℕ) (accepted : accept book ≡ Ok tt) (s : Sides) (found : sides_at book number ≡ Some s) where
   pub few_vars : s.vars ≤ 16
   few_vars =
       let r = sides_rule book number s found in

@@ -10,9 +10,7 @@ use lib.Dec.{leb}
 use lib.ListN.{length, set, take, drop, length-drop}
 use lib.Seq.{sets, length-take-le, set_out, take-length, drop-length}
 use borrow.Author.Tests.{leb-true, leb-false}
-use Rattle.term.specs.declared.check.Checked.TheVariants.{Good}
-use Rattle.term.specs.declared.renumber.Passed.{Passed}
-use Rattle.term.specs.declared.renumber.Passed.TheVariants.{Done, Stuck}
+use Rattle.std.specs.Prelude.{Ok, Option, Some, None}
 use Rattle.term.specs.Word.{count_of, ident_of}
 use Rattle.term.specs.Row.{Row, words, nesting, Formed}
 use Rattle.term.specs.Check.{check, term_limits}
@@ -67,18 +65,18 @@ put_back out last from =
 
 -- ---- a body that was written
 module _ (d : ℕ) (ys : List ℕ) (levels : ℕ) (body out : List ℕ) (to : ℕ) where
-  pub part_beyond : (done : List ℕ) → 4096 < to → BodyBuilt d ys levels body out to done Stuck
+  pub part_beyond : (done : List ℕ) → 4096 < to → BodyBuilt d ys levels body out to done None
   unfolding BodyBuilt
   part_beyond done h g c = λ p n l. omega (arith, h, l)
 
   -- the one tree that stands there is the body
-  same_tree : (b : Row) (after : List ℕ) → check term_limits body ≡ Good → Stands levels 1 body 0 b after → b ≡ tree_of body
+  same_tree : (b : Row) (after : List ℕ) → check term_limits body ≡ Ok tt → Stands levels 1 body 0 b after → b ≡ tree_of body
   same_tree b after c s =
       let t = term_standing body c in
       (words_unique b (tree_of body) after [] s.formed t.formed (s.wide ∙ sym t.wide) (sym s.same ∙ t.same)).0
 
   module _ (from : ℕ) (e : from ≡ length out - (length out - to)) (small : to ≤ 4096) (last : List ℕ) where
-    module _ (n : ℕ) (told : below_came (Done n) last ≡ write_below_gives levels d ys body (drop from out)) where
+    module _ (n : ℕ) (told : below_came (Some n) last ≡ write_below_gives levels d ys body (drop from out)) where
       record Wrote : Type 0 where
         is : ids_within d ys (tree_of body) ≡ true
         formed : Formed (tree_of body)
@@ -86,7 +84,7 @@ module _ (d : ℕ) (ys : List ℕ) (levels : ℕ) (body out : List ℕ) (to : �
         long : n ≡ length (words (tree_of body))
         written : last ≡ sets (drop from out) 0 (words (to_term d ys (tree_of body)))
 
-      wrote : check term_limits body ≡ Good → Wrote
+      wrote : check term_limits body ≡ Ok tt → Wrote
       wrote c =
           let t = below_wrote levels d ys body (drop from out) last n told in
           let q : t.0 ≡ tree_of body = same_tree t.0 t.1 c t.2 in
@@ -98,11 +96,11 @@ module _ (d : ℕ) (ys : List ℕ) (levels : ℕ) (body out : List ℕ) (to : �
             written = rw q at t.5;
           }
 
-      pub part_wrote : n ≤ 4096 - to → BodyBuilt d ys levels body out to (take from out ++ last) (Done (to + n))
+      pub part_wrote : n ≤ 4096 - to → BodyBuilt d ys levels body out to (take from out ++ last) (Some (to + n))
       unfolding BodyBuilt
       part_wrote h g c = shown (wrote c)
         where
-          shown : Wrote → RowBuilt levels out to (take from out ++ last) (to_term d ys (tree_of body)) (Done (to + n))
+          shown : Wrote → RowBuilt levels out to (take from out ++ last) (to_term d ys (tree_of body)) (Some (to + n))
           shown w =
               let k = term_keeps d ys (tree_of body) in (
                 within_formed d ys (tree_of body) w.formed w.is,
@@ -112,14 +110,14 @@ module _ (d : ℕ) (ys : List ℕ) (levels : ℕ) (body out : List ℕ) (to : �
                 ap (λ (l : List ℕ). take from out ++ l) w.written ∙ spliced out (words (to_term d ys (tree_of body))) to from e,
               )
 
-      pub part_long : 4096 - to < n → (done : List ℕ) → BodyBuilt d ys levels body out to done Stuck
+      pub part_long : 4096 - to < n → (done : List ℕ) → BodyBuilt d ys levels body out to done None
       unfolding BodyBuilt
       part_long h done g c = shown (wrote c)
         where
-          shown : Wrote → RowBuilt levels out to done (to_term d ys (tree_of body)) Stuck
+          shown : Wrote → RowBuilt levels out to done (to_term d ys (tree_of body)) None
           shown w = λ p q l. omega (arith, h, small, l, w.long, (term_keeps d ys (tree_of body)).long)
 
-    pub part_over : below_came Stuck last ≡ write_below_gives levels d ys body (drop from out) → (done : List ℕ) → BodyBuilt d ys levels body out to done Stuck
+    pub part_over : below_came None last ≡ write_below_gives levels d ys body (drop from out) → (done : List ℕ) → BodyBuilt d ys levels body out to done None
     unfolding BodyBuilt
     part_over told done g c p n l =
         let t = term_standing body c in
@@ -134,19 +132,19 @@ few_taken k ids e h = omega (arith, length-take-le k ids (omega (arith, e, h)), 
 
 module _ (w : ℕ) (after : List ℕ) (d levels : ℕ) (bodies lengths out : List ℕ) (to : ℕ) (done : List ℕ) where
   -- no list stands there, no such variable is given, or its body runs past the words: not where the bodies were judged good
-  pub hole_no_list : list_in (count_of w) after ≡ none → HoleBuilt w after d levels bodies lengths out to done Stuck
+  pub hole_no_list : list_in (count_of w) after ≡ none → HoleBuilt w after d levels bodies lengths out to done None
   unfolding HoleBuilt
   hole_no_list e vars ys g x l k = never (cc)
 
-  pub hole_no_variable : 16 ≤ ident_of w → HoleBuilt w after d levels bodies lengths out to done Stuck
+  pub hole_no_variable : 16 ≤ ident_of w → HoleBuilt w after d levels bodies lengths out to done None
   unfolding HoleBuilt
   hole_no_variable h vars ys g x l k = absurd (omega (arith, h, x, g.few))
 
-  pub hole_past : length bodies < start_of lengths (ident_of w + 1) → HoleBuilt w after d levels bodies lengths out to done Stuck
+  pub hole_past : length bodies < start_of lengths (ident_of w + 1) → HoleBuilt w after d levels bodies lengths out to done None
   unfolding HoleBuilt
   hole_past h vars ys g x l k = absurd (omega (arith, h, g.sums, start_below lengths (ident_of w + 1) 16 (omega (arith, x, g.few))))
 
-  pub hole_wrote : (zs : List ℕ) → list_in (count_of w) after ≡ some zs → (r : Passed) → BodyBuilt d zs levels (words_at bodies lengths (ident_of w)) out to done r
+  pub hole_wrote : (zs : List ℕ) → list_in (count_of w) after ≡ some zs → (r : Option ℕ) → BodyBuilt d zs levels (words_at bodies lengths (ident_of w)) out to done r
       → HoleBuilt w after d levels bodies lengths out to done r
   unfolding HoleBuilt BodyBuilt given_bodies
   hole_wrote zs e r told vars ys g x l k =

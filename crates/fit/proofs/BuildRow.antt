@@ -4,17 +4,15 @@ use mathlib.Core.List.{List, ◌++◌}
 use Prim.Native.Nat.{ℕ, suc, ◌+◌, ◌-◌, ◌≤◌, ◌<◌}
 use native.Mathlib.Omega.{arith}
 use lib.ListN.{length}
-use Rattle.term.specs.declared.renumber.Passed.TheVariants as step
 use Rattle.term.specs.Word.{Head, symbol, abstraction, variable, pattern, InTable}
 use Rattle.term.specs.Row.{Row, nothing, node, width, words, ranks, ◌⧺◌}
 use Rattle.term.specs.Renumber.{inside, to_term}
 use Rattle.term.proofs.Laws.{width_node, width_join, ranks_nothing, ranks_node, ranks_join, rank_symbol, rank_abstraction, words_nothing, abstraction_in_table, join_nothing, term_keeps, inside_symbol, inside_abstraction}
 use Rattle.book.specs.Rule.{ids_of}
-use Rattle.fit.specs.declared.fitting.Both.{Both}
-use Rattle.fit.specs.declared.fitting.Both.TheVariants.{Done, Stuck}
+use Rattle.std.specs.Prelude.{Some, None}
 use Rattle.fit.specs.Left.{Left, end, hole, part, ids_or, left_of}
 use Rattle.fit.specs.Fit.{build}
-use Rattle.fit.specs.Told.Told.{LeftRow, LeftStands}
+use Rattle.fit.specs.Told.Told.{LeftRow, LeftStands, Offsets}
 use Rattle.fit.specs.Build.{words_at, given_bodies}
 use Rattle.fit.specs.Told.BuildWalk.{Given, BothBuilt, LeftBuilt}
 use Rattle.fit.proofs.Basics.{tree_before}
@@ -83,46 +81,46 @@ in_table vars d (variable i) kids p = absurd p
 in_table vars d (pattern x c) kids p = p.0
 
 -- ---- a row by its first tree and the rest
-both_first_over : (levels : ℕ) (out : List ℕ) (to : ℕ) (mid done : List ℕ) (f g : Row) (i j : ℕ) → BothBuilt levels out to mid f i Stuck → BothBuilt levels out to done (f ⧺ g) j Stuck
+both_first_over : (levels : ℕ) (out : List ℕ) (to : ℕ) (mid done : List ℕ) (f g : Row) (i j : ℕ) → BothBuilt levels out to mid f i None → BothBuilt levels out to done (f ⧺ g) j None
 both_first_over levels out to mid done f g i j over = row_first_over levels out to f g mid done over
 
-both_then : (levels : ℕ) (out : List ℕ) (to : ℕ) (mid done : List ℕ) (f g : Row) (i j a b : ℕ) → BothBuilt levels out to mid f i (Done a b) → (r : Both)
+both_then : (levels : ℕ) (out : List ℕ) (to : ℕ) (mid done : List ℕ) (f g : Row) (i j a b : ℕ) → BothBuilt levels out to mid f i (Some (a, b)) → (r : Offsets)
     → BothBuilt levels mid b done g j r → BothBuilt levels out to done (f ⧺ g) j r
-both_then levels out to mid done f g i j a b x (Done c e) y = (y.0, row_then_lem levels out to f g mid b x.1 done (step.Done e) y.1)
-both_then levels out to mid done f g i j a b x Stuck y = row_then_lem levels out to f g mid b x.1 done step.Stuck y
+both_then levels out to mid done f g i j a b x (Some (c, e)) y = (y.0, row_then_lem levels out to f g mid b x.1 done (Some e) y.1)
+both_then levels out to mid done f g i j a b x None y = row_then_lem levels out to f g mid b x.1 done None y
 
 module _ (d levels count : ℕ) (left : List ℕ) (at : ℕ) (bodies lengths out : List ℕ) (to : ℕ) where
-  pub build_none : count ≡ 0 → LeftBuilt d levels count left at bodies lengths out to out (Done at to)
+  pub build_none : count ≡ 0 → LeftBuilt d levels count left at bodies lengths out to out (Some (at, to))
   unfolding LeftBuilt
   build_none z vars p after s g l = shown p (s.wide ∙ z)
     where
-      shown : (p : Row) → width p ≡ 0 → BothBuilt levels out to out (build (given_bodies bodies lengths) d (left_of p)) (at + length (words p)) (Done at to)
+      shown : (p : Row) → width p ≡ 0 → BothBuilt levels out to out (build (given_bodies bodies lengths) d (left_of p)) (at + length (words p)) (Some (at, to))
       shown nothing w =
           let n : length (words nothing) ≡ 0 = ap length words_nothing in
           rw (build_end (given_bodies bodies lengths) d) (omega (arith, n), row_none levels out to l)
       shown (node h kids rest) w = absurd (omega (arith, w, width_node h kids rest))
 
   module _ (z : count ≡ 0 → ⊥) where
-    pub build_deep : (done : List ℕ) → levels ≡ 0 → LeftBuilt d levels count left at bodies lengths out to done Stuck
+    pub build_deep : (done : List ℕ) → levels ≡ 0 → LeftBuilt d levels count left at bodies lengths out to done None
     unfolding LeftBuilt
     build_deep done e vars p after s g l = absurd (omega (arith, e, (left_first vars d levels count left at z p after s).levelled))
 
-    pub build_ended : (done : List ℕ) → length left ≤ at → LeftBuilt d levels count left at bodies lengths out to done Stuck
+    pub build_ended : (done : List ℕ) → length left ≤ at → LeftBuilt d levels count left at bodies lengths out to done None
     unfolding LeftBuilt
     build_ended done e vars p after s g l = absurd (omega (arith, e, (left_first vars d levels count left at z p after s).within))
 
-    pub build_stuck : (mid : List ℕ) → LeftBuilt d levels 1 left at bodies lengths out to mid Stuck → LeftBuilt d levels count left at bodies lengths out to mid Stuck
+    pub build_stuck : (mid : List ℕ) → LeftBuilt d levels 1 left at bodies lengths out to mid None → LeftBuilt d levels count left at bodies lengths out to mid None
     unfolding LeftBuilt
     build_stuck mid told vars p after s g l = shown (left_first vars d levels count left at z p after s)
       where
-        shown : LeftFirst vars d levels count left at p after → BothBuilt levels out to mid (build (given_bodies bodies lengths) d (left_of p)) (at + length (words p)) Stuck
+        shown : LeftFirst vars d levels count left at p after → BothBuilt levels out to mid (build (given_bodies bodies lengths) d (left_of p)) (at + length (words p)) None
         shown f =
             let good : LeftRow vars d (node f.head f.children f.right) = rw f.is at s.good in
             rw (f.is, build_split vars (given_bodies bodies lengths) d f.head f.children f.right good)
             (both_first_over levels out to mid mid (build (given_bodies bodies lengths) d (left_of (node f.head f.children nothing))) (build (given_bodies bodies lengths) d (left_of f.right)) 0 0
             (told vars (node f.head f.children nothing) (words f.right ++ after) f.alone g l))
 
-    pub build_more : (mid : List ℕ) (a b : ℕ) → LeftBuilt d levels 1 left at bodies lengths out to mid (Done a b) → (done : List ℕ) (r : Both)
+    pub build_more : (mid : List ℕ) (a b : ℕ) → LeftBuilt d levels 1 left at bodies lengths out to mid (Some (a, b)) → (done : List ℕ) (r : Offsets)
         → LeftBuilt d levels (count - 1) left a bodies lengths mid b done r → LeftBuilt d levels count left at bodies lengths out to done r
     unfolding LeftBuilt
     build_more mid a b told done r rest vars p after s g l = shown (left_first vars d levels count left at z p after s)

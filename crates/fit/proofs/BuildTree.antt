@@ -5,7 +5,6 @@ use mathlib.Core.Option.{some}
 use Prim.Native.Nat.{ℕ, ◌+◌, ◌-◌, ◌≤◌, ◌<◌}
 use native.Mathlib.Omega.{arith}
 use lib.ListN.{length, drop, get_or, set}
-use Rattle.term.specs.declared.renumber.Passed.TheVariants as step
 use Rattle.term.specs.Word
 use Rattle.term.specs.Word.{Head, pattern, word, kind_of, count_of, ident_of}
 use Rattle.term.specs.Row.{Row, nothing, node, width, words, nesting}
@@ -14,11 +13,10 @@ use Rattle.term.specs.Told.Walk.{inside_word}
 use Rattle.term.proofs.Laws.{nesting_node, kind_word, count_word_lem, ident_word, inside_is, count_pattern, ident_pattern}
 use Rattle.book.specs.Told.Ids.{list_in}
 use Rattle.book.proofs.Laws.{ids_counted, list_found}
-use Rattle.fit.specs.declared.fitting.Both.{Both}
-use Rattle.fit.specs.declared.fitting.Both.TheVariants.{Done, Stuck}
+use Rattle.std.specs.Prelude.{Some, None}
 use Rattle.fit.specs.Left.{left_of}
 use Rattle.fit.specs.Fit.{build}
-use Rattle.fit.specs.Told.Told.{LeftRow, LeftStands}
+use Rattle.fit.specs.Told.Told.{LeftRow, LeftStands, Offsets}
 use Rattle.fit.specs.Build.{given_bodies}
 use Rattle.fit.specs.Told.BuildWalk.{HoleBuilt, BothBuilt, LeftBuilt}
 use Rattle.fit.proofs.Basics.{single, Single}
@@ -62,21 +60,21 @@ module _ (d levels : ℕ) (left : List ℕ) (at : ℕ) (la : at < length left) w
     inner_is vars p after x =
         inner_row vars d x.head x.kids (λ e. inner (ap kind_of (sym x.word_is) ∙ kind_word x.head (in_table vars d x.head x.kids x.good) ∙ e)) x.good
 
-    pub build_full : (done : List ℕ) → 4096 ≤ to → LeftBuilt d levels 1 left at bodies lengths out to done Stuck
+    pub build_full : (done : List ℕ) → 4096 ≤ to → LeftBuilt d levels 1 left at bodies lengths out to done None
     unfolding LeftBuilt
     build_full done h vars p after s g l = shown (one_tree vars p after s)
       where
-        shown : OneTree vars p after → BothBuilt levels out to done (build (given_bodies bodies lengths) d (left_of p)) (at + length (words p)) Stuck
+        shown : OneTree vars p after → BothBuilt levels out to done (build (given_bodies bodies lengths) d (left_of p)) (at + length (words p)) None
         shown x =
             let e : build (given_bodies bodies lengths) d (left_of p) ≡ _ = ap (λ (r : Row). build (given_bodies bodies lengths) d (left_of r)) x.is ∙ ap (build (given_bodies bodies lengths) d) (inner_is vars p after x).is ∙ build_part (given_bodies bodies lengths) d x.head (left_of x.kids) in
             rw e (row_full levels out to x.head (build (given_bodies bodies lengths) (inside x.head d) (left_of x.kids)) done h)
 
-    both_node : (h : Head) (kids : Row) (i j : ℕ) → Word.InTable h → width kids ≡ Word.count h → 1 ≤ levels → i ≡ j → (done : List ℕ) (r : Both)
+    both_node : (h : Head) (kids : Row) (i j : ℕ) → Word.InTable h → width kids ≡ Word.count h → 1 ≤ levels → i ≡ j → (done : List ℕ) (r : Offsets)
         → BothBuilt (levels - 1) (set out to (word h)) (to + 1) done kids i r → BothBuilt levels out to done (node h kids nothing) j r
-    both_node h kids i j t w l e done (Done a b) r = (r.0 ∙ e, row_node levels out to h kids t w l done (step.Done b) r.1)
-    both_node h kids i j t w l e done Stuck r = row_node levels out to h kids t w l done step.Stuck r
+    both_node h kids i j t w l e done (Some (a, b)) r = (r.0 ∙ e, row_node levels out to h kids t w l done (Some b) r.1)
+    both_node h kids i j t w l e done None r = row_node levels out to h kids t w l done None r
 
-    pub build_inner : 1 ≤ levels → to < 4096 → (done : List ℕ) (r : Both)
+    pub build_inner : 1 ≤ levels → to < 4096 → (done : List ℕ) (r : Offsets)
         → LeftBuilt (inside_word (get_or left at 0) d) (levels - 1) (count_of (get_or left at 0)) left (at + 1) bodies lengths (set out to (get_or left at 0)) (to + 1) done r
         → LeftBuilt d levels 1 left at bodies lengths out to done r
     unfolding LeftBuilt
@@ -123,18 +121,18 @@ module _ (d levels : ℕ) (left : List ℕ) (at : ℕ) (la : at < length left) w
         }
 
     module _ (done : List ℕ) where
-      pub build_body : (b : ℕ) → HoleBuilt (get_or left at 0) (drop (at + 1) left) d levels bodies lengths out to done (step.Done b)
-          → LeftBuilt d levels 1 left at bodies lengths out to done (Done (at + 1 + count_of (get_or left at 0)) b)
+      pub build_body : (b : ℕ) → HoleBuilt (get_or left at 0) (drop (at + 1) left) d levels bodies lengths out to done (Some b)
+          → LeftBuilt d levels 1 left at bodies lengths out to done (Some (at + 1 + count_of (get_or left at 0), b))
       unfolding LeftBuilt HoleBuilt
       build_body b told vars p after s g l = shown (hole_tree vars p after (one_tree vars p after s))
         where
-          shown : HoleTree vars p → BothBuilt levels out to done (build (given_bodies bodies lengths) d (left_of p)) (at + length (words p)) (Done (at + 1 + count_of (get_or left at 0)) b)
+          shown : HoleTree vars p → BothBuilt levels out to done (build (given_bodies bodies lengths) d (left_of p)) (at + length (words p)) (Some (at + 1 + count_of (get_or left at 0), b))
           shown x = rw (x.builds (given_bodies bodies lengths)) (omega (arith, x.long), told vars x.list g x.low x.listed x.good)
 
-      pub build_no_body : HoleBuilt (get_or left at 0) (drop (at + 1) left) d levels bodies lengths out to done step.Stuck
-          → LeftBuilt d levels 1 left at bodies lengths out to done Stuck
+      pub build_no_body : HoleBuilt (get_or left at 0) (drop (at + 1) left) d levels bodies lengths out to done None
+          → LeftBuilt d levels 1 left at bodies lengths out to done None
       unfolding LeftBuilt HoleBuilt
       build_no_body told vars p after s g l = shown (hole_tree vars p after (one_tree vars p after s))
         where
-          shown : HoleTree vars p → BothBuilt levels out to done (build (given_bodies bodies lengths) d (left_of p)) (at + length (words p)) Stuck
+          shown : HoleTree vars p → BothBuilt levels out to done (build (given_bodies bodies lengths) d (left_of p)) (at + length (words p)) None
           shown x = rw (x.builds (given_bodies bodies lengths)) (told vars x.list g x.low x.listed x.good)

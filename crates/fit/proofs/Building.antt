@@ -7,8 +7,7 @@ use native.Mathlib.Nat.{add-zero, add-suc, suc-add}
 use native.Mathlib.Numerals.{add-one}
 use lib.ListN.{length, set, length-append}
 use lib.Seq.{sets}
-use Rattle.term.specs.declared.renumber.Passed.{Passed}
-use Rattle.term.specs.declared.renumber.Passed.TheVariants.{Done, Stuck}
+use Rattle.std.specs.Prelude.{Option, Some, None}
 use Rattle.term.specs.Word.{Head, word, count, InTable}
 use Rattle.term.specs.Row.{Row, nothing, node, width, words, nesting, Formed, ◌⧺◌}
 use Rattle.term.proofs.Laws.{words_nothing, nesting_nothing, nesting_node, formed_nothing, formed_node, node_formed, join_nothing_left, join_node, words_join, nesting_join, formed_join}
@@ -31,25 +30,25 @@ long_join : (f g : Row) → length (words (f ⧺ g)) ≡ length (words f) + leng
 long_join f g = ap length (words_join f g) ∙ length-append (words f) (words g)
 
 module _ (levels : ℕ) (out : List ℕ) (to : ℕ) where
-  pub row_none : to ≤ 4096 → RowBuilt levels out to out nothing (Done to)
+  pub row_none : to ≤ 4096 → RowBuilt levels out to out nothing (Some to)
   row_none h =
       let n : length (words nothing) ≡ 0 = ap length words_nothing in
       (formed_nothing, omega (arith, nesting_nothing), omega (arith, n), h, rw words_nothing)
 
   module _ (f g : Row) (mid : List ℕ) where
-    pub row_first_over : (done : List ℕ) → RowBuilt levels out to mid f Stuck → RowBuilt levels out to done (f ⧺ g) Stuck
+    pub row_first_over : (done : List ℕ) → RowBuilt levels out to mid f None → RowBuilt levels out to done (f ⧺ g) None
     row_first_over done over =
         λ p n l. over (formed_both f g p).0 (omega (arith, n, nesting_join f g)) (omega (arith, l, long_join f g))
 
-    pub row_then_lem : (b : ℕ) → RowBuilt levels out to mid f (Done b) → (done : List ℕ) (r : Passed) → RowBuilt levels mid b done g r → RowBuilt levels out to done (f ⧺ g) r
-    row_then_lem b a done (Done c) r = (
+    pub row_then_lem : (b : ℕ) → RowBuilt levels out to mid f (Some b) → (done : List ℕ) (r : Option ℕ) → RowBuilt levels mid b done g r → RowBuilt levels out to done (f ⧺ g) r
+    row_then_lem b a done (Some c) r = (
       formed_join f g a.0 r.0,
       omega (arith, a.1, r.1, nesting_join f g),
       omega (arith, a.2, r.2, long_join f g),
       r.3,
       r.4 ∙ rw (a.4, a.2, words_join f g) (sym (sets_append (words f) (words g) out to)),
     )
-    row_then_lem b a done Stuck r =
+    row_then_lem b a done None r =
         λ p n l. r (formed_both f g p).1 (omega (arith, n, nesting_join f g)) (omega (arith, l, long_join f g, a.2))
 
   module _ (h : Head) (kids : Row) where
@@ -60,18 +59,18 @@ module _ (levels : ℕ) (out : List ℕ) (to : ℕ) where
     deep_tree = omega (arith, nesting_node h kids nothing, nesting_nothing)
 
     -- no word is left
-    pub row_full : (done : List ℕ) → 4096 ≤ to → RowBuilt levels out to done (node h kids nothing) Stuck
+    pub row_full : (done : List ℕ) → 4096 ≤ to → RowBuilt levels out to done (node h kids nothing) None
     row_full done h = λ p n l. omega (arith, h, l, long_tree)
 
     -- a word before its children
-    pub row_node : InTable h → width kids ≡ count h → 1 ≤ levels → (done : List ℕ) (r : Passed)
+    pub row_node : InTable h → width kids ≡ count h → 1 ≤ levels → (done : List ℕ) (r : Option ℕ)
         → RowBuilt (levels - 1) (set out to (word h)) (to + 1) done kids r → RowBuilt levels out to done (node h kids nothing) r
-    row_node t w l done (Done b) r = (
+    row_node t w l done (Some b) r = (
       node_formed h kids nothing (record { table = t; full = w; below = r.0; beside = formed_nothing }),
       omega (arith, r.1, l, deep_tree),
       omega (arith, r.2, long_tree),
       r.3,
       rw (words_tree h kids) (rw (add-one to) at r.4),
     )
-    row_node t w l done Stuck r =
+    row_node t w l done None r =
         λ p n m. r (formed_node h kids nothing p).below (omega (arith, n, l, deep_tree)) (omega (arith, m, long_tree))

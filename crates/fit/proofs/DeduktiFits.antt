@@ -7,7 +7,7 @@ use Prim.Native.Nat.{ℕ, suc, ◌≤◌, ◌<◌}
 use native.Mathlib.Omega.{arith}
 use lib.Dec.{eqb}
 use borrow.Author.Tests.{eqb-true, eq-eqb}
-use Rattle.term.specs.declared.check.Checked.TheVariants.{Good}
+use Rattle.std.specs.Prelude.{Ok}
 use Rattle.term.specs.Word.{Head, symbol, abstraction, variable, pattern, rank}
 use Rattle.term.specs.Row.{Row, nothing, node, width, words, ◌⧺◌}
 use Rattle.term.specs.Check.{IsTerm, term_limits}
@@ -203,7 +203,7 @@ term_tree ws i =
     rw (tree_of_lem term_limits ws i)
     (record { same = sym i.same; body = term_is_body ws i })
 
-pub as_dedukti : (book : List ℕ) → check_book book ≡ Good → (number : ℕ) (rule : Rule) → rule_at book number ≡ some rule → (term : List ℕ) → IsTerm term
+pub as_dedukti : (book : List ℕ) → check_book book ≡ Ok tt → (number : ℕ) (rule : Rule) → rule_at book number ≡ some rule → (term : List ℕ) → IsTerm term
     → AsDedukti rule.vars (left_in rule) term
 as_dedukti book accepted number rule e term i =
     shown (accepted_good book accepted number rule e) (term_tree term i)

@@ -10,12 +10,12 @@ use borrow.Author.Tests.{ltb-true, ltb-false}
 use lib.ListN.{length, length-append, length-drop, take, drop, get_or, replicate}
 use Rattle.term.specs.Word.{count_of}
 use Rattle.term.specs.Row.{Row, words}
-use Rattle.term.specs.declared.part.Written.{Written}
-use Rattle.term.specs.declared.part.Written.TheVariants.{Words}
+use Rattle.std.specs.Prelude.{Result, Ok, Err, Some, None}
+use Rattle.std.specs.Result.{result_ok}
+use Rattle.term.specs.declared.part.Unwritten.{Unwritten}
 use Rattle.term.specs.Part.{body_of, same_body, written, body_answer, body_words}
-use Rattle.term.specs.declared.renumber.Passed.TheVariants as step
 use Rattle.term.proofs.Laws.{never, same_by_words, body_of_lem, body_keeps, body_answer_lem, body_words_lem, answer_fits, written_fits, padded_fits}
-use Rattle.book.specs.Told.Ids.{list_in, is_list, four_of}
+use Rattle.book.specs.Told.Ids.{list_in, four_of}
 use Rattle.book.proofs.Laws.{told_list, told_none}
 use Rattle.fit.specs.declared.fitting.First.{First}
 use Rattle.fit.specs.Fit.{Found, body_in}
@@ -29,54 +29,49 @@ met_seen left term table x low l k n = go (slot table x 0) refl
     go zero e = absurd (n e)
     go (suc a) e = let z : slot table x 0 - 1 ≡ a = omega arith in rw z (k.seen x a low e)
 
-module _ (left term table : List ℕ) (x : ℕ) (low : x < 16) (first : First) where
-  no_first : first.there ≡ false → ((l : Found) → Knows left term table l → present x l ≡ false) → FirstTold left term table x first
+module _ (left term table : List ℕ) (x : ℕ) (low : x < 16) where
+  pub first_new : slot table x 0 ≡ 0 → FirstTold left term table x None
   unfolding FirstTold
-  no_first e n = (λ t. never (cc), λ f. n)
-
-  pub first_new : first.there ≡ false → slot table x 0 ≡ 0 → FirstTold left term table x first
-  first_new e z = no_first e (λ l k. k.new x low z)
+  first_new z l k = k.new x low z
 
   module _ (met : slot table x 0 ≡ 0 → ⊥) where
-    pub first_past_term : first.there ≡ false → length term < slot table x 0 - 1 → FirstTold left term table x first
-    first_past_term e z = no_first e (λ l k. absurd (omega (arith, z, (met_seen left term table x low l k met).inside)))
+    pub first_past_term : length term < slot table x 0 - 1 → FirstTold left term table x None
+    unfolding FirstTold
+    first_past_term z l k = absurd (omega (arith, z, (met_seen left term table x low l k met).inside))
 
-    pub first_past_left : first.there ≡ false → length left ≤ slot table x 1 → FirstTold left term table x first
-    first_past_left e z = no_first e (λ l k. absurd (omega (arith, z, (met_seen left term table x low l k met).within)))
+    pub first_past_left : length left ≤ slot table x 1 → FirstTold left term table x None
+    unfolding FirstTold
+    first_past_left z l k = absurd (omega (arith, z, (met_seen left term table x low l k met).within))
 
     -- the list is read where the word lies
-    pub first_read : slot table x 0 - 1 ≤ length term → (ids : List ℕ) (all : Bool)
-        → (ids ≡ four_of (list_in first.k (drop (slot table x 1 + 1) left))) × (all ≡ is_list (list_in first.k (drop (slot table x 1 + 1) left)))
-        → first.at ≡ slot table x 0 - 1 → first.depth ≡ slot table x 2 → first.k ≡ count_of (get_or left (slot table x 1) 0) → first.ids ≡ ids → first.there ≡ all
-        → FirstTold left term table x first
+    pub first_unlisted : None ≡ four_of (list_in (count_of (get_or left (slot table x 1) 0)) (drop (slot table x 1 + 1) left)) → FirstTold left term table x None
     unfolding FirstTold
-    first_read inside ids all told at depth k i there = (λ t. is t, λ f. absent f)
-      where
-        is : first.there ≡ true → FirstIs left term table x first
-        is t =
-            let l = told_list first.k (drop (slot table x 1 + 1) left) ids all told (sym there ∙ t) in
-            record {
-              met = omega (arith, at, met);
-              inside = rw at inside;
-              passed = depth;
-              listed = rw (← k, i) l.0;
-              four = ap length i ∙ l.1;
-              few = l.2;
-            }
+    first_unlisted told l kn =
+        let n = told_none (count_of (get_or left (slot table x 1) 0)) (drop (slot table x 1 + 1) left) told in
+        let s = met_seen left term table x low l kn met in
+        let z : list_in (count_of (get_or left (slot table x 1) 0)) (drop (slot table x 1 + 1) left) ≡ some s.list = s.listed in
+        never (cc)
 
-        absent : first.there ≡ false → (l : Found) → Knows left term table l → present x l ≡ false
-        absent f l kn =
-            let n = told_none first.k (drop (slot table x 1 + 1) left) ids all told (sym there ∙ f) in
-            let s = met_seen left term table x low l kn met in
-            let z : list_in first.k (drop (slot table x 1 + 1) left) ≡ some s.list = rw k s.listed in
-            never (cc)
+    pub first_read : (first : First) → slot table x 0 - 1 ≤ length term → first.k ≡ count_of (get_or left (slot table x 1) 0)
+        → Some first.ids ≡ four_of (list_in first.k (drop (slot table x 1 + 1) left)) → first.at ≡ slot table x 0 - 1 → first.depth ≡ slot table x 2 → FirstTold left term table x (Some first)
+    unfolding FirstTold
+    first_read first inside k told at depth =
+        let l = told_list first.k (drop (slot table x 1 + 1) left) first.ids told in
+        record {
+          met = omega (arith, at, met);
+          inside = rw at inside;
+          passed = depth;
+          listed = rw (← k) l.0;
+          four = l.1;
+          few = l.2;
+        }
 
 body_long : (d : ℕ) (ys term : List ℕ) (at : ℕ) (b : Row) → body_of d ys (drop at term) ≡ some b → length (words b) ≤ length term
 body_long d ys term at b e =
     let i = body_of_lem d ys (drop at term) b e in
     omega (arith, (body_keeps d ys i.tree b i.body).long, ap length i.stands.same, length-append (words i.tree) i.after, length-drop at term)
 
-short_written : (room : ℕ) (ws : List ℕ) (r : Written) → r ≡ written room ws → ((n : ℕ) → r ≡ Words n → ⊥) → room < length ws
+short_written : (room : ℕ) (ws : List ℕ) (r : Result ℕ Unwritten) → r ≡ written room ws → ((n : ℕ) → r ≡ Ok n → ⊥) → room < length ws
 short_written room ws r e n = go (ltb room (length ws)) refl
   where
     go : (b : Bool) → ltb room (length ws) ≡ b → room < length ws
@@ -84,35 +79,40 @@ short_written room ws r e n = go (ltb room (length ws)) refl
     go false z = absurd (n (length ws) (e ∙ written_fits room ws (ltb-false room (length ws) z)))
 
 -- ---- what was told, for a caller
-module _ (left term table : List ℕ) (x : ℕ) (low : x < 16) (first : First) (told : FirstTold left term table x first) where
-  pub first_is_lem : first.there ≡ true → FirstIs left term table x first
-  unfolding FirstTold
-  first_is_lem e = told.0 e
+pub first_is_lem : (left term table : List ℕ) (x : ℕ) (first : First) → FirstTold left term table x (Some first) → FirstIs left term table x first
+unfolding FirstTold
+first_is_lem left term table x first told = told
 
+module _ (left term table : List ℕ) (x : ℕ) where
+  pub first_absent : FirstTold left term table x None → (d : ℕ) (ys : List ℕ) (to : ℕ) → FirstSame left term table x d ys to false
+  unfolding FirstTold FirstSame
+  first_absent told d ys to l b k h q = let n = told l k in never (cc)
+
+  pub first_unwritten : FirstTold left term table x None → (out done : List ℕ) → FirstWritten left term table x out done None
+  unfolding FirstTold FirstWritten
+  first_unwritten told out done l k h = let n = told l k in never (cc)
+
+module _ (left term table : List ℕ) (x : ℕ) (low : x < 16) (first : First) (f : FirstIs left term table x first) where
   -- its part has the body that was found
-  pub first_body_lem : FirstIs left term table x first → (l : Found) → Knows left term table l → body_of first.depth (take first.k first.ids) (drop first.at term) ≡ some (body_in l x)
-  first_body_lem f l k =
+  pub first_body_lem : (l : Found) → Knows left term table l → body_of first.depth (take first.k first.ids) (drop first.at term) ≡ some (body_in l x)
+  first_body_lem l k =
       let s = k.seen x first.at low f.met in
       let q : s.list ≡ take first.k first.ids = let y = s.listed in let z = f.listed in cc in
       rw (f.passed, ← q) s.body
 
-  pub first_compared : FirstIs left term table x first → (d : ℕ) (ys : List ℕ) (to : ℕ)
+  pub first_compared : (d : ℕ) (ys : List ℕ) (to : ℕ)
       → FirstSame left term table x d ys to (same_body first.depth (take first.k first.ids) (drop first.at term) d ys (drop to term))
   unfolding FirstSame
-  first_compared f d ys to l b k h e =
-      same_by_words first.depth (take first.k first.ids) (drop first.at term) d ys (drop to term) (body_in l x) b (first_body_lem f l k) e
-
-  pub first_absent : first.there ≡ false → (d : ℕ) (ys : List ℕ) (to : ℕ) (r : Bool) → FirstSame left term table x d ys to r
-  unfolding FirstTold FirstSame
-  first_absent e d ys to r l b k h q = let n = told.1 e l k in never (cc)
+  first_compared d ys to l b k h e =
+      same_by_words first.depth (take first.k first.ids) (drop first.at term) d ys (drop to term) (body_in l x) b (first_body_lem l k) e
 
   -- what is said to be written is the body
-  pub first_written : FirstIs left term table x first → (out done : List ℕ) (n : ℕ)
-      → Words n ≡ body_answer (length out) (body_of first.depth (take first.k first.ids) (drop first.at term))
+  first_written : (out done : List ℕ) (n : ℕ)
+      → Ok n ≡ body_answer (length out) (body_of first.depth (take first.k first.ids) (drop first.at term))
       → done ≡ body_words (length out) (body_of first.depth (take first.k first.ids) (drop first.at term))
-      → FirstWritten left term table x out done (step.Done n)
+      → FirstWritten left term table x out done (Some n)
   unfolding FirstWritten
-  first_written f out done n e w = shown (answer_fits (length out) _ n (sym e))
+  first_written out done n e w = shown (answer_fits (length out) _ n (sym e))
     where
       shown : (b : Row) × (body_of first.depth (take first.k first.ids) (drop first.at term) ≡ some b) × (n ≡ length (words b)) × (length (words b) ≤ length out)
           → (n ≤ length out) × (n ≤ length term)
@@ -121,7 +121,7 @@ module _ (left term table : List ℕ) (x : ℕ) (low : x < 16) (first : First) (
         omega (arith, a.2, a.3),
         omega (arith, a.2, body_long first.depth (take first.k first.ids) term first.at a.0 a.1),
         λ l k h.
-            let q : some (body_in l x) ≡ some a.0 = sym (first_body_lem f l k) ∙ a.1 in
+            let q : some (body_in l x) ≡ some a.0 = sym (first_body_lem l k) ∙ a.1 in
             let s : a.0 ≡ body_in l x = cc in (
               a.2 ∙ ap (λ (r : Row). length (words r)) s,
               w ∙ ap (body_words (length out)) a.1 ∙ body_words_lem (length out) a.0 ∙ padded_fits (length out) (words a.0) a.3
@@ -130,13 +130,17 @@ module _ (left term table : List ℕ) (x : ℕ) (low : x < 16) (first : First) (
       )
 
   -- where nothing is written there is no room for the body
-  pub first_short : FirstIs left term table x first → (out done : List ℕ) (r : Written)
-      → r ≡ body_answer (length out) (body_of first.depth (take first.k first.ids) (drop first.at term)) → ((n : ℕ) → r ≡ Words n → ⊥)
-      → FirstWritten left term table x out done step.Stuck
+  first_short : (out done : List ℕ) (r : Result ℕ Unwritten)
+      → r ≡ body_answer (length out) (body_of first.depth (take first.k first.ids) (drop first.at term)) → ((n : ℕ) → r ≡ Ok n → ⊥)
+      → FirstWritten left term table x out done None
   unfolding FirstWritten
-  first_short f out done r e n l k h =
-      short_written (length out) (words (body_in l x)) r (e ∙ ap (body_answer (length out)) (first_body_lem f l k) ∙ body_answer_lem (length out) (body_in l x)) n
+  first_short out done r e n l k h =
+      short_written (length out) (words (body_in l x)) r (e ∙ ap (body_answer (length out)) (first_body_lem l k) ∙ body_answer_lem (length out) (body_in l x)) n
 
-  pub first_unwritten : first.there ≡ false → (out done : List ℕ) → FirstWritten left term table x out done step.Stuck
-  unfolding FirstTold FirstWritten
-  first_unwritten e out done l k h = let n = told.1 e l k in never (cc)
+  -- the same of all that may be answered
+  pub first_said : (out done : List ℕ) (r : Result ℕ Unwritten)
+      → r ≡ body_answer (length out) (body_of first.depth (take first.k first.ids) (drop first.at term))
+      → done ≡ body_words (length out) (body_of first.depth (take first.k first.ids) (drop first.at term))
+      → FirstWritten left term table x out done (result_ok r)
+  first_said out done (Ok n) e w = first_written out done n e w
+  first_said out done (Err u) e w = first_short out done (Err u) e (λ n q. never (cc))

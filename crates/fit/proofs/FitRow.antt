@@ -13,11 +13,10 @@ use Rattle.term.specs.Row.{Row, nothing, node, width, words}
 use Rattle.term.specs.Renumber.{inside, to_body}
 use Rattle.term.proofs.Laws.{words_node, words_nothing, width_node, width_nothing, nesting_node, nesting_nothing, ranks_node, ranks_nothing, formed_node, node_formed, formed_nothing}
 use Rattle.book.specs.Rule.{ids_of}
-use Rattle.fit.specs.declared.fitting.Both.{Both}
-use Rattle.fit.specs.declared.fitting.Both.TheVariants.{Done, Stuck}
+use Rattle.std.specs.Prelude.{Some, None}
 use Rattle.fit.specs.Left.{ids_or, left_of}
 use Rattle.fit.specs.Fit.{Found, body_then, both_found, only_if, found, all_same}
-use Rattle.fit.specs.Told.Told.{LeftRow, LeftStands, TermStands, Knows, agreed_from, FitTold}
+use Rattle.fit.specs.Told.Told.{LeftRow, LeftStands, TermStands, Knows, agreed_from, FitTold, Offsets}
 use Rattle.fit.proofs.Agreed.{both_agreed, left_disagreed, right_disagreed}
 
 pub further : (at n : ℕ) (ws x y : List ℕ) → drop at ws ≡ x ++ y → length x ≡ n → drop (at + n) ws ≡ y
@@ -136,7 +135,7 @@ length_split h kids rest =
     omega (arith, a, b)
 
 module _ (vars d levels count : ℕ) (left : List ℕ) (at : ℕ) (term : List ℕ) (to : ℕ) (table : List ℕ) where
-  pub fit_none : count ≡ 0 → FitTold vars d levels count left at term to table table (Done at to)
+  pub fit_none : count ≡ 0 → FitTold vars d levels count left at term to table table (Some (at, to))
   unfolding FitTold found left_of all_same
   fit_none z p after t beyond l s u k = shown p t (s.wide ∙ z) (u.wide ∙ z)
     where
@@ -148,20 +147,20 @@ module _ (vars d levels count : ℕ) (left : List ℕ) (at : ℕ) (term : List �
       shown (node h ks rs) t a b = absurd (omega (arith, a, width_node h ks rs))
 
   module _ (z : count ≡ 0 → ⊥) where
-    pub fit_deep : (done : List ℕ) → levels ≡ 0 → FitTold vars d levels count left at term to table done Stuck
+    pub fit_deep : (done : List ℕ) → levels ≡ 0 → FitTold vars d levels count left at term to table done None
     unfolding FitTold
     fit_deep done e p after t beyond l s u k = absurd (omega (arith, e, (left_first vars d levels count left at z p after s).levelled))
 
-    pub fit_left_ended : (done : List ℕ) → length left ≤ at → FitTold vars d levels count left at term to table done Stuck
+    pub fit_left_ended : (done : List ℕ) → length left ≤ at → FitTold vars d levels count left at term to table done None
     unfolding FitTold
     fit_left_ended done e p after t beyond l s u k = absurd (omega (arith, e, (left_first vars d levels count left at z p after s).within))
 
-    pub fit_term_ended : (done : List ℕ) → length term ≤ to → FitTold vars d levels count left at term to table done Stuck
+    pub fit_term_ended : (done : List ℕ) → length term ≤ to → FitTold vars d levels count left at term to table done None
     unfolding FitTold
     fit_term_ended done e p after t beyond l s u k = absurd (omega (arith, e, (term_first count term to z t beyond u).within))
 
     -- the first trees do not fit
-    pub fit_stuck : (mid : List ℕ) → FitTold vars d levels 1 left at term to table mid Stuck → FitTold vars d levels count left at term to table mid Stuck
+    pub fit_stuck : (mid : List ℕ) → FitTold vars d levels 1 left at term to table mid None → FitTold vars d levels count left at term to table mid None
     unfolding FitTold
     fit_stuck mid told p after t beyond l s u k = shown (left_first vars d levels count left at z p after s) (term_first count term to z t beyond u)
       where
@@ -172,7 +171,7 @@ module _ (vars d levels count : ℕ) (left : List ℕ) (at : ℕ) (term : List �
             (left_disagreed l (found d (left_of (node f.head f.children nothing)) (node g.head g.children nothing)) (found d (left_of f.right) g.right) (told (node f.head f.children nothing) (words f.right ++ after) (node g.head g.children nothing) (words g.right ++ beyond) l f.alone g.alone k))
 
     -- the first trees fit, and so the answer is that of the rest
-    module _ (mid : List ℕ) (a b : ℕ) (told : FitTold vars d levels 1 left at term to table mid (Done a b)) (done : List ℕ) where
+    module _ (mid : List ℕ) (a b : ℕ) (told : FitTold vars d levels 1 left at term to table mid (Some (a, b))) (done : List ℕ) where
       module _ (p : Row) (after : List ℕ) (t : Row) (beyond : List ℕ) (l : Found) (s : LeftStands vars d levels count left at p after) (u : TermStands count term to t beyond) (k : Knows left term table l)
           (f : LeftFirst vars d levels count left at p after) (g : TermFirst count term to t beyond) where
         first_found : Option Found
@@ -195,7 +194,7 @@ module _ (vars d levels count : ℕ) (left : List ℕ) (at : ℕ) (term : List �
         term_beside : TermStands (count - 1) term b g.right beyond
         term_beside = rw first_told.4 g.beside
 
-        pub rest_done : (c e : ℕ) → FitTold vars d levels (count - 1) left a term b mid done (Done c e)
+        pub rest_done : (c e : ℕ) → FitTold vars d levels (count - 1) left a term b mid done (Some (c, e))
             → (m : Found) × (agreed_from l (found d (left_of p) t) ≡ some m) × Knows left term done (l ++ m) × (c ≡ at + length (words p)) × (e ≡ to + length (words t))
         unfolding FitTold
         rest_done c e rest =
@@ -207,16 +206,16 @@ module _ (vars d levels count : ℕ) (left : List ℕ) (at : ℕ) (term : List �
               omega (arith, r.4, first_told.4, ap (λ (x : Row). length (words x)) g.is, length_split g.head g.children g.right),
             )
 
-        pub rest_stuck : FitTold vars d levels (count - 1) left a term b mid done Stuck → agreed_from l (found d (left_of p) t) ≡ none
+        pub rest_stuck : FitTold vars d levels (count - 1) left a term b mid done None → agreed_from l (found d (left_of p) t) ≡ none
         unfolding FitTold
         rest_stuck rest =
             rw whole_found
             (right_disagreed l first_told.0 first_found (found d (left_of f.right) g.right) first_told.1
             (rest f.right after g.right beyond (l ++ first_told.0) left_beside term_beside first_told.2))
 
-      pub fit_more : (r : Both) → FitTold vars d levels (count - 1) left a term b mid done r → FitTold vars d levels count left at term to table done r
+      pub fit_more : (r : Offsets) → FitTold vars d levels (count - 1) left a term b mid done r → FitTold vars d levels count left at term to table done r
       unfolding FitTold
-      fit_more (Done c e) rest =
+      fit_more (Some (c, e)) rest =
           λ p after t beyond l s u k. rest_done p after t beyond l s u k (left_first vars d levels count left at z p after s) (term_first count term to z t beyond u) c e rest
-      fit_more Stuck rest =
+      fit_more None rest =
           λ p after t beyond l s u k. rest_stuck p after t beyond l s u k (left_first vars d levels count left at z p after s) (term_first count term to z t beyond u) rest

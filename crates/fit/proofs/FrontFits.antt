@@ -7,7 +7,7 @@ use Prim.Native.Nat.{ℕ, zero, suc, ◌+◌, ◌-◌, ◌≤◌, ◌<◌}
 use native.Mathlib.Omega.{arith}
 use native.Mathlib.Decide.{dec_le}
 use lib.ListN.{get_or}
-use Rattle.term.specs.declared.check.Checked.TheVariants.{Good}
+use Rattle.std.specs.Prelude.{Ok}
 use Rattle.term.specs.Word.{Head, symbol, count, InTable}
 use Rattle.term.specs.Row.{Row, node, width, Formed, ◌⧺◌}
 use Rattle.term.specs.Check.{IsTerm}
@@ -189,7 +189,7 @@ module _ (book : List ℕ) (t : Row) (i : IsBody t) (good : (r : ℕ) (rule : Ru
       step number (number + suc more) (omega arith) (matching_front_o (rule_at book number) t) refl (lowest_front book (suc number) more t) (rw e at (lowest_front_is more (suc number)))
 
 -- of all the rules of an accepted book, the lowest that fits
-pub book_lowest_front : (book : List ℕ) → check_book book ≡ Good → (ws : List ℕ) (i : IsTerm ws) → LowestFrontIs book 0 (get_or book 0 0) i.tree (lowest_front book 0 (get_or book 0 0) i.tree)
+pub book_lowest_front : (book : List ℕ) → check_book book ≡ Ok tt → (ws : List ℕ) (i : IsTerm ws) → LowestFrontIs book 0 (get_or book 0 0) i.tree (lowest_front book 0 (get_or book 0 0) i.tree)
 book_lowest_front book accepted ws i =
     let e : 0 + get_or book 0 0 ≡ get_or book 0 0 = omega arith in
     rw e at (lowest_front_is book i.tree (term_is_body ws i) (accepted_good book accepted) (get_or book 0 0) 0)
@@ -238,7 +238,7 @@ module _ (left : Left) (root : SymbolRoot left) (table : InTable (symbol root.id
           (λ e. same_symbol root.ident root.arguments root.kids root.rest g e
           (sym (root_arguments_lem (symbol root.ident root.arguments) root.kids root.rest ∙ count_symbol root.ident root.arguments) ∙ (rw z at few) e)))
 
-module _ (book : List ℕ) (accepted : check_book book ≡ Good) (g : Head) (ts rs : Row) (w : Formed (node g ts rs)) (few : (r : ℕ) (rule : Rule) → rule_at book r ≡ some rule → JustAsMany (left_in rule) g) where
+module _ (book : List ℕ) (accepted : check_book book ≡ Ok tt) (g : Head) (ts rs : Row) (w : Formed (node g ts rs)) (few : (r : ℕ) (rule : Rule) → rule_at book r ≡ some rule → JustAsMany (left_in rule) g) where
   table_of_lem : (number : ℕ) (rule : Rule) (e : rule_at book number ≡ some rule)
       → InTable (symbol (accepted_root book accepted number rule e).ident (accepted_root book accepted number rule e).arguments)
   table_of_lem number rule e =

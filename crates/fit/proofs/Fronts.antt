@@ -8,7 +8,7 @@ use native.Mathlib.Omega.{arith}
 use lib.Dec.{eqb, leb}
 use lib.ListN.{length, length-append}
 use borrow.Author.Tests.{le-leb, lt-leb, leb-true, leb-false, eqb-true, eq-eqb, ne_eqb}
-use Rattle.term.specs.declared.check.Checked.TheVariants.{Good}
+use Rattle.std.specs.Prelude.{Ok}
 use Rattle.term.specs.Word.{Head, symbol, abstraction, variable, pattern, word, count, pick, InTable}
 use Rattle.term.specs.Row.{Row, nothing, node, width, words, nesting, ranks, Formed, ◌⧺◌, firsts, others}
 use Rattle.term.proofs.Laws.{never, and_left, and_right, count_symbol, width_nothing, width_node, words_node, words_join, nesting_node, nesting_join, ranks_node, ranks_join, rank_symbol, join_nothing, join_nothing_left, formed_node, node_formed, firsts_others, width_firsts, width_others, formed_firsts, firsts_nothing, firsts_node, firsts_all, others_node, symbol_table, symbol_few}
@@ -278,7 +278,7 @@ root_is_lem (node abstraction kids rest) e = never (let z = root_abstraction kid
 root_is_lem (node (variable i) kids rest) e = never (let z = root_variable i kids rest in cc)
 root_is_lem (node (pattern i c) kids rest) e = never (let z = root_pattern i c kids rest in cc)
 
-pub accepted_root : (book : List ℕ) → check_book book ≡ Good → (number : ℕ) (rule : Rule) → rule_at book number ≡ some rule → SymbolRoot (left_in rule)
+pub accepted_root : (book : List ℕ) → check_book book ≡ Ok tt → (number : ℕ) (rule : Rule) → rule_at book number ≡ some rule → SymbolRoot (left_in rule)
 unfolding left_in
 accepted_root book accepted number rule e =
     let f = book_rule book number rule accepted e in

@@ -16,7 +16,7 @@ use Rattle.term.proofs.Laws.{never, kind_word, count_word_lem, ident_word, kind_
 use Rattle.book.specs.Rule.{ids_of}
 use Rattle.book.specs.Told.Ids.{list_in}
 use Rattle.book.proofs.Laws.{ids_counted, list_found}
-use Rattle.fit.specs.declared.fitting.Both.TheVariants.{Done, Stuck}
+use Rattle.std.specs.Prelude.{Some, None}
 use Rattle.fit.specs.Left.{Left, end, hole, ids_or, left_of}
 use Rattle.fit.specs.Fit.{Found, body_then, found, body_in}
 use Rattle.fit.specs.Told.Told.{LeftRow, LeftStands, TermStands, slot, Knows, recorded, FirstSame, agreed_from, FitTold, VariableTold, shared_ends, SharesTold}
@@ -106,17 +106,17 @@ module _ (vars d levels : ℕ) (left : List ℕ) (at : ℕ) (term : List ℕ) (t
           }
 
   -- every pattern variable has a list, and is one of the rule's
-  pub hole_unlisted : (done : List ℕ) → list_in (count_of (get_or left at 0)) (drop (at + 1) left) ≡ none → FitTold vars d levels 1 left at term to table done Stuck
+  pub hole_unlisted : (done : List ℕ) → list_in (count_of (get_or left at 0)) (drop (at + 1) left) ≡ none → FitTold vars d levels 1 left at term to table done None
   unfolding FitTold
   hole_unlisted done e p after t beyond l s u k = let h = here p after t beyond s u in let z = h.listed in never (cc)
 
-  pub hole_beyond : (done : List ℕ) → vars ≤ ident_of (get_or left at 0) → FitTold vars d levels 1 left at term to table done Stuck
+  pub hole_beyond : (done : List ℕ) → vars ≤ ident_of (get_or left at 0) → FitTold vars d levels 1 left at term to table done None
   unfolding FitTold
   hole_beyond done e p after t beyond l s u k = absurd (omega (arith, e, (here p after t beyond s u).low))
 
   -- a tree that is not closed for the list has no body
   pub hole_open : (ys done : List ℕ) → list_in (count_of (get_or left at 0)) (drop (at + 1) left) ≡ some ys → body_of d ys (drop to term) ≡ none
-      → FitTold vars d levels 1 left at term to table done Stuck
+      → FitTold vars d levels 1 left at term to table done None
   unfolding FitTold
   hole_open ys done e b p after t beyond l s u k = shown (here p after t beyond s u)
     where
@@ -150,7 +150,7 @@ module _ (vars d levels : ℕ) (left : List ℕ) (at : ℕ) (term : List ℕ) (t
 
     -- the first occurrence of its variable is recorded
     pub hole_new : slot table (ident_of (get_or left at 0)) 0 ≡ 0
-        → FitTold vars d levels 1 left at term to table (recorded table (ident_of (get_or left at 0)) (to + 1) at d) (Done (at + 1 + count_of (get_or left at 0)) (to + part_end (drop to term)))
+        → FitTold vars d levels 1 left at term to table (recorded table (ident_of (get_or left at 0)) (to + 1) at d) (Some (at + 1 + count_of (get_or left at 0), to + part_end (drop to term)))
     unfolding FitTold body_in
     hole_new z p after t beyond l s u k =
         let h = holds p after t beyond l s u in
@@ -177,7 +177,7 @@ module _ (vars d levels : ℕ) (left : List ℕ) (at : ℕ) (term : List ℕ) (t
       first_slot : slot table (ident_of (get_or left at 0)) 0 ≡ suc (slot table (ident_of (get_or left at 0)) 0 - 1)
       first_slot = omega (arith, met)
 
-      pub hole_again : same ≡ true → FitTold vars d levels 1 left at term to table table (Done (at + 1 + count_of (get_or left at 0)) (to + part_end (drop to term)))
+      pub hole_again : same ≡ true → FitTold vars d levels 1 left at term to table table (Some (at + 1 + count_of (get_or left at 0), to + part_end (drop to term)))
       unfolding FitTold
       hole_again y p after t beyond l s u k =
           let h = holds p after t beyond l s u in
@@ -189,7 +189,7 @@ module _ (vars d levels : ℕ) (left : List ℕ) (at : ℕ) (term : List ℕ) (t
             h.term_ends,
           )
 
-      pub hole_differs : (done : List ℕ) → same ≡ false → FitTold vars d levels 1 left at term to table done Stuck
+      pub hole_differs : (done : List ℕ) → same ≡ false → FitTold vars d levels 1 left at term to table done None
       unfolding FitTold
       hole_differs done y p after t beyond l s u k =
           let h = holds p after t beyond l s u in

@@ -14,11 +14,10 @@ use Rattle.term.specs.Row.{Row, nothing, node, width, words, ranks, nesting, For
 use Rattle.term.specs.Renumber.{inside}
 use Rattle.term.specs.Told.Walk.{inside_word}
 use Rattle.term.proofs.Laws.{nesting_node, ranks_node, formed_node, count_word_lem, kind_word, inside_is, count_symbol, count_abstraction, kind_pattern, inside_symbol, inside_abstraction, abstraction_in_table}
-use Rattle.fit.specs.declared.fitting.Both.{Both}
-use Rattle.fit.specs.declared.fitting.Both.TheVariants.{Done, Stuck}
+use Rattle.std.specs.Prelude.{Some, None}
 use Rattle.fit.specs.Left.{Left, end, part, left_of}
 use Rattle.fit.specs.Fit.{Found, found}
-use Rattle.fit.specs.Told.Told.{LeftRow, LeftStands, TermStands, Knows, agreed_from, FitTold}
+use Rattle.fit.specs.Told.Told.{LeftRow, LeftStands, TermStands, Knows, agreed_from, FitTold, Offsets}
 use Rattle.fit.proofs.Basics.{single, Single, same_word}
 use Rattle.fit.proofs.FitRow.{words_tree, both_end}
 
@@ -96,7 +95,7 @@ module _ (vars d levels : ℕ) (left : List ℕ) (at : ℕ) (term : List ℕ) (t
             term_rest = b.1;
           }
 
-  pub inner_differ : (get_or left at 0 ≡ get_or term to 0 → ⊥) → FitTold vars d levels 1 left at term to table done Stuck
+  pub inner_differ : (get_or left at 0 ≡ get_or term to 0 → ⊥) → FitTold vars d levels 1 left at term to table done None
   unfolding FitTold
   inner_differ n p after t beyond l s u k = shown (trees p after t beyond s u)
     where
@@ -155,7 +154,7 @@ module _ (vars d levels : ℕ) (left : List ℕ) (at : ℕ) (term : List ℕ) (t
       long_term = ap (λ (r : Row). length (words r)) x.term_is ∙ ap length (words_tree x.other x.parts) ∙ omega arith
 
       inner_done : (a b : ℕ) (l : Found) → Knows left term table l
-          → FitTold vars (inside_word (get_or left at 0) d) (levels - 1) (count_of (get_or left at 0)) left (at + 1) term (to + 1) table done (Done a b)
+          → FitTold vars (inside_word (get_or left at 0) d) (levels - 1) (count_of (get_or left at 0)) left (at + 1) term (to + 1) table done (Some (a, b))
           → (m : Found) × (agreed_from l (found d (left_of p) t) ≡ some m) × Knows left term done (l ++ m) × (a ≡ at + length (words p)) × (b ≡ to + length (words t))
       unfolding FitTold
       inner_done a b l k told =
@@ -163,14 +162,14 @@ module _ (vars d levels : ℕ) (left : List ℕ) (at : ℕ) (term : List ℕ) (t
           (r.0, rw found_same r.1, r.2, omega (arith, r.3, long_left), omega (arith, r.4, long_term))
 
       inner_stuck : (l : Found) → Knows left term table l
-          → FitTold vars (inside_word (get_or left at 0) d) (levels - 1) (count_of (get_or left at 0)) left (at + 1) term (to + 1) table done Stuck
+          → FitTold vars (inside_word (get_or left at 0) d) (levels - 1) (count_of (get_or left at 0)) left (at + 1) term (to + 1) table done None
           → agreed_from l (found d (left_of p) t) ≡ none
       unfolding FitTold
       inner_stuck l k told = rw found_same (told x.kids after x.parts beyond l left_below term_below_lem k)
 
     -- what is told of the children is told of the trees
-    pub inner_told : (r : Both) → FitTold vars (inside_word (get_or left at 0) d) (levels - 1) (count_of (get_or left at 0)) left (at + 1) term (to + 1) table done r
+    pub inner_told : (r : Offsets) → FitTold vars (inside_word (get_or left at 0) d) (levels - 1) (count_of (get_or left at 0)) left (at + 1) term (to + 1) table done r
         → FitTold vars d levels 1 left at term to table done r
     unfolding FitTold
-    inner_told (Done a b) told = λ p after t beyond l s u k. inner_done p after t beyond s u (trees p after t beyond s u) a b l k told
-    inner_told Stuck told = λ p after t beyond l s u k. inner_stuck p after t beyond s u (trees p after t beyond s u) l k told
+    inner_told (Some (a, b)) told = λ p after t beyond l s u k. inner_done p after t beyond s u (trees p after t beyond s u) a b l k told
+    inner_told None told = λ p after t beyond l s u k. inner_stuck p after t beyond s u (trees p after t beyond s u) l k told

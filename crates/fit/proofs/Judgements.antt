@@ -8,7 +8,7 @@ use native.Mathlib.Omega.{arith}
 use lib.Dec.{leb}
 use lib.ListN.{length, replicate}
 use borrow.Author.Tests.{leb-false}
-use Rattle.term.specs.declared.check.Checked.TheVariants.{Good, Bad}
+use Rattle.std.specs.Prelude.{Ok, Err}
 use Rattle.term.specs.declared.answer.Answer.TheVariants.{Done, BadTerm, BadBook, Short, NoRule}
 use Rattle.term.specs.Answer.{number_of}
 use Rattle.term.specs.Word.{Head, count, pick}
@@ -30,21 +30,21 @@ use Rattle.fit.proofs.RoundTrip.{build_agree, body_good, body_tree}
 
 -- ---- matching one rule
 module _ (book : List ℕ) (number : ℕ) (ws : List ℕ) where
-  pub match_bad_book : (at : ℕ) → check_book book ≡ Bad at → match_rule book number ws ≡ refused (BadBook at)
+  pub match_bad_book : (at : ℕ) → check_book book ≡ Err at → match_rule book number ws ≡ refused (BadBook at)
   match_bad_book at e = match_refused book number ws (BadBook at) (bad_refused book at e)
 
-  pub match_no_rule : check_book book ≡ Good → rule_at book number ≡ none → match_rule book number ws ≡ refused (NoRule number)
+  pub match_no_rule : check_book book ≡ Ok tt → rule_at book number ≡ none → match_rule book number ws ≡ refused (NoRule number)
   match_no_rule g e = match_unknown book number ws (good_accepted book g) e
 
-  module _ (good : check_book book ≡ Good) (rule : Rule) (found : rule_at book number ≡ some rule) where
-    pub match_bad_term : (at : ℕ) → check term_limits ws ≡ Bad at → match_rule book number ws ≡ refused (BadTerm at)
+  module _ (good : check_book book ≡ Ok tt) (rule : Rule) (found : rule_at book number ≡ some rule) where
+    pub match_bad_term : (at : ℕ) → check term_limits ws ≡ Err at → match_rule book number ws ≡ refused (BadTerm at)
     match_bad_term at e = match_wrong book number ws (good_accepted book good) rule found at e
 
-    pub match_one_rule : check term_limits ws ≡ Good → match_rule book number ws ≡ fitted_o rule.vars (aside (root_arguments (left_in rule)) (tree_of ws)) (matching_front (left_in rule) (tree_of ws))
+    pub match_one_rule : check term_limits ws ≡ Ok tt → match_rule book number ws ≡ fitted_o rule.vars (aside (root_arguments (left_in rule)) (tree_of ws)) (matching_front (left_in rule) (tree_of ws))
     match_one_rule e = match_asked book number ws (good_accepted book good) rule found e
 
     -- where the term's root has just as many arguments as the left side, the whole term is matched
-    pub match_whole : check term_limits ws ≡ Good → (g : Head) (ts rs : Row) → tree_of ws ≡ node g ts rs → root_arguments (left_in rule) ≡ count g
+    pub match_whole : check term_limits ws ≡ Ok tt → (g : Head) (ts rs : Row) → tree_of ws ≡ node g ts rs → root_arguments (left_in rule) ≡ count g
         → match_rule book number ws ≡ fitted_o rule.vars 0 (matching (left_in rule) (tree_of ws))
     match_whole e g ts rs z n =
         let i = good_tree term_limits (omega arith) ws e in
@@ -67,25 +67,25 @@ match_zeros room (fitted vars n b) h = go (leb (length (body_list b 0 vars)) roo
 
 -- ---- building a left side
 module _ (book : List ℕ) (number : ℕ) (bodies lengths : List ℕ) where
-  pub build_bad_book : (at : ℕ) → check_book book ≡ Bad at → build_left book number bodies lengths ≡ building.refused (BadBook at)
+  pub build_bad_book : (at : ℕ) → check_book book ≡ Err at → build_left book number bodies lengths ≡ building.refused (BadBook at)
   build_bad_book at e = build_refused book number bodies lengths (BadBook at) (bad_refused book at e)
 
-  pub build_no_rule : check_book book ≡ Good → rule_at book number ≡ none → build_left book number bodies lengths ≡ building.refused (NoRule number)
+  pub build_no_rule : check_book book ≡ Ok tt → rule_at book number ≡ none → build_left book number bodies lengths ≡ building.refused (NoRule number)
   build_no_rule g e = build_unknown book number bodies lengths (good_accepted book g) e
 
-  module _ (good : check_book book ≡ Good) (rule : Rule) (found : rule_at book number ≡ some rule) where
+  module _ (good : check_book book ≡ Ok tt) (rule : Rule) (found : rule_at book number ≡ some rule) where
     pub build_bad_lengths : good_lengths rule.vars bodies lengths ≡ false → build_left book number bodies lengths ≡ building.refused (BadTerm 16)
     build_bad_lengths e = build_wrong_lengths book number bodies lengths (good_accepted book good) rule found e
 
-    pub build_bad_body : good_lengths rule.vars bodies lengths ≡ true → (x : ℕ) → check_bodies bodies lengths 0 rule.vars ≡ Bad x → build_left book number bodies lengths ≡ building.refused (BadTerm x)
+    pub build_bad_body : good_lengths rule.vars bodies lengths ≡ true → (x : ℕ) → check_bodies bodies lengths 0 rule.vars ≡ Err x → build_left book number bodies lengths ≡ building.refused (BadTerm x)
     build_bad_body l x e = build_wrong_body book number bodies lengths (good_accepted book good) rule found l x e
 
-    pub build_from : good_lengths rule.vars bodies lengths ≡ true → check_bodies bodies lengths 0 rule.vars ≡ Good
+    pub build_from : good_lengths rule.vars bodies lengths ≡ true → check_bodies bodies lengths 0 rule.vars ≡ Ok tt
         → build_left book number bodies lengths ≡ limited (build (given_bodies bodies lengths) 0 (left_in rule))
     build_from l e = build_asked book number bodies lengths (good_accepted book good) rule found l e
 
 -- bodies in variable order, with their lengths, build what they turn the left side into
-module _ (book : List ℕ) (number : ℕ) (rule : Rule) (good : check_book book ≡ Good) (found : rule_at book number ≡ some rule) (b : ℕ → Row) (terms : (x : ℕ) → x < rule.vars → IsBody (b x)) where
+module _ (book : List ℕ) (number : ℕ) (rule : Rule) (good : check_book book ≡ Ok tt) (found : rule_at book number ≡ some rule) (b : ℕ → Row) (terms : (x : ℕ) → x < rule.vars → IsBody (b x)) where
   abbrev bodies : List ℕ
   bodies = body_list b 0 rule.vars
 

@@ -6,15 +6,13 @@ use mathlib.Core.Option.{some}
 use Prim.Native.Nat.{ℕ, ◌-◌, ◌≤◌, ◌<◌}
 use native.Mathlib.Omega.{arith}
 use lib.ListN.{length, take, drop, replicate}
-use Rattle.term.specs.declared.check.Checked.TheVariants.{Good, Bad}
+use Rattle.std.specs.Prelude.{Ok, Err, Some, None}
 use Rattle.term.specs.declared.answer.Answer.{Answer}
 use Rattle.term.specs.declared.answer.Answer.TheVariants as answer
 use Rattle.term.specs.Answer.{answered}
 use Rattle.term.specs.Check.{check, term_limits}
 use Rattle.term.proofs.Laws.{good_tree}
 use Rattle.book.specs.declared.book.Sides.{Sides}
-use Rattle.book.specs.declared.book.Found.TheVariants as found
-use Rattle.book.specs.declared.accept.Accepted.TheVariants.{Sound, Refused}
 use Rattle.book.specs.Rule.{root_symbol, side_limits}
 use Rattle.book.specs.Book.{Rule, check_book, rule_at}
 use Rattle.book.specs.Accept.{accept}
@@ -41,22 +39,22 @@ module _ (book : List ℕ) (number : ℕ) (ws : List ℕ) (room : ℕ) where
     unfolding match_answer match_aside match_words match_lengths
     refused_zeros a e r q = match_came book number ws room r.answer r.aside bodies lengths (rw e (q.0, z, y)) (rw e q.1)
 
-    pub match_bad_book : (a : Answer) → accept book ≡ Refused a → (r : RuleMatch) → (r.answer ≡ a) × (r.aside ≡ 0)
+    pub match_bad_book : (a : Answer) → accept book ≡ Err a → (r : RuleMatch) → (r.answer ≡ a) × (r.aside ≡ 0)
         → match_rule_came (answered r.answer) r.aside bodies lengths ≡ match_rule_gives book number ws room
     match_bad_book a e = refused_zeros a (match_refused book number ws a e)
 
-    module _ (accepted : accept book ≡ Sound) where
-      pub match_no_rule : sides_at book number ≡ found.None → (r : RuleMatch) → (r.answer ≡ answer.NoRule number) × (r.aside ≡ 0)
+    module _ (accepted : accept book ≡ Ok tt) where
+      pub match_no_rule : sides_at book number ≡ None → (r : RuleMatch) → (r.answer ≡ answer.NoRule number) × (r.aside ≡ 0)
           → match_rule_came (answered r.answer) r.aside bodies lengths ≡ match_rule_gives book number ws room
       match_no_rule e = refused_zeros (answer.NoRule number) (match_unknown book number ws accepted (sides_none book number e))
 
-      pub match_bad_term : (sides : Sides) → sides_at book number ≡ found.Rule sides → (at : ℕ) → check term_limits ws ≡ Bad at
+      pub match_bad_term : (sides : Sides) → sides_at book number ≡ Some sides → (at : ℕ) → check term_limits ws ≡ Err at
           → (r : RuleMatch) → (r.answer ≡ answer.BadTerm at) × (r.aside ≡ 0) → match_rule_came (answered r.answer) r.aside bodies lengths ≡ match_rule_gives book number ws room
       match_bad_term sides e at t = let r = sides_rule book number sides e in refused_zeros (answer.BadTerm at) (match_wrong book number ws accepted r.0 r.1 at t)
 
   -- what the walk needs of the rule and the term, and what it tells of them
-  module _ (accepted : accept book ≡ Sound) (sides : Sides) (e : sides_at book number ≡ found.Rule sides) where
-    good_book : check_book book ≡ Good
+  module _ (accepted : accept book ≡ Ok tt) (sides : Sides) (e : sides_at book number ≡ Some sides) where
+    good_book : check_book book ≡ Ok tt
     good_book = sound_good book accepted
 
     rule_found : (rule : Rule) × (rule_at book number ≡ some rule) × SidesAre book rule sides
@@ -82,7 +80,7 @@ module _ (book : List ℕ) (number : ℕ) (ws : List ℕ) (room : ℕ) where
     left_root : root_symbol (tree_of rule_found.0.left) ≡ true
     left_root = rw (tree_of_lem side_limits rule_found.0.left facts.left_tree) facts.left_root
 
-    module _ (good : check term_limits ws ≡ Good) where
+    module _ (good : check term_limits ws ≡ Ok tt) where
       pub term_begins : 0 < length ws
       term_begins = (term_first 1 ws 0 (λ z. absurd (omega (arith, z))) (tree_of ws) [] (term_standing ws good)).within
 

@@ -7,7 +7,7 @@ use Prim.Native.Nat.{ℕ, ◌+◌, ◌-◌, ◌*◌, ◌≤◌, ◌<◌, max}
 use native.Mathlib.Omega.{arith}
 use lib.Dec.{eqb, leb}
 use lib.ListN.{length, drop, get_or, replicate}
-use borrow.Author.Tests.{eq-eqb, ne_eqb, leb-true}
+use borrow.Author.Tests.{leb-true}
 use Rattle.term.specs.declared.answer.Answer.{Answer}
 use Rattle.term.specs.declared.answer.Answer.TheVariants as answer
 use Rattle.term.specs.Answer.{answered}
@@ -17,7 +17,7 @@ use Rattle.term.specs.Renumber.{inside, to_body}
 use Rattle.term.proofs.Laws.{never, and_right, zero_at, kind_word, count_word_lem, ident_word, kind_symbol, kind_abstraction, kind_variable, kind_pattern, count_symbol, ident_symbol, inside_symbol, formed_node, nesting_node, nesting_join, ranks_node, ranks_join, words_join, firsts_others, width_firsts, formed_firsts}
 use Rattle.book.specs.Rule.{root_symbol}
 use Rattle.book.proofs.Laws.{root_abstraction, root_variable, root_pattern}
-use Rattle.fit.specs.declared.fitting.Both.TheVariants.{Done, Stuck}
+use Rattle.std.specs.Prelude.{Some, None}
 use Rattle.fit.specs.declared.rules.RuleMatch.{RuleMatch}
 use Rattle.fit.specs.Left.{Left, end, hole, part, left_of, occurs}
 use Rattle.fit.specs.Fit.{Found, body_then, both_found, only_if, found, body_in, all_same, agreed, matching}
@@ -154,18 +154,6 @@ covered_is j b kids rest abstraction u v = rw (kind_word abstraction v ∙ kind_
 covered_is j b kids rest (variable i) u v = rw (kind_word (variable i) v ∙ kind_variable i)
 covered_is j b kids rest (pattern i c) u v = rw (kind_word (pattern i c) v ∙ kind_pattern i c)
 
--- the words, part by part
-module _ (w v k : ℕ) (e : k ≡ kind_of v) where
-  pub other_kind : (k ≡ 0 → ⊥) → covered_word w v ≡ false
-  other_kind n = rw (ne_eqb (kind_of v) 0 (λ z. n (e ∙ z)))
-
-  module _ (z : k ≡ 0) (i j : ℕ) (p : i ≡ ident_of w) (q : j ≡ ident_of v) where
-    pub other_ident : (i ≡ j → ⊥) → covered_word w v ≡ false
-    other_ident n = rw (eq-eqb (kind_of v) 0 (sym e ∙ z), ne_eqb (ident_of w) (ident_of v) (λ y. n (p ∙ y ∙ sym q)))
-
-    pub same_ident : i ≡ j → (b a : ℕ) → b ≡ count_of w → a ≡ count_of v → covered_word w v ≡ leb b a
-    same_ident y b a s t = rw (eq-eqb (kind_of v) 0 (sym e ∙ z), eq-eqb (ident_of w) (ident_of v) (sym p ∙ y ∙ q), s, t)
-
 -- where a word is covered it counts no fewer
 pub covers_count : (w v : ℕ) → covered_word w v ≡ true → count_of w ≤ count_of v
 covers_count w v e =
@@ -279,7 +267,7 @@ module _ (vars : ℕ) (left term table : List ℕ) (cleared : table ≡ replicat
 
   module _ (e : covered_word (get_or left 0 0) (get_or term 0 0) ≡ true) (done : List ℕ) where
     -- the first arguments do not fit
-    pub rule_stuck : FitTold vars 0 15 (count_of (get_or left 0 0)) left 1 term 1 table done Stuck
+    pub rule_stuck : FitTold vars 0 15 (count_of (get_or left 0 0)) left 1 term 1 table done None
         → (bodies lengths : List ℕ) → bodies ≡ replicate room 0 → lengths ≡ replicate 16 0 → (r : RuleMatch) → r.answer ≡ answer.NoFit → r.aside ≡ 0 → RuleTold vars left term room bodies lengths r
     unfolding FitTold RuleTold
     rule_stuck told bodies lengths b l r a n p t s q u all = shown (roots vars left term p t s q u ll lt)
@@ -292,7 +280,7 @@ module _ (vars : ℕ) (left term table : List ℕ) (cleared : table ≡ replicat
             (front_found vars left term room p t s u x e ∙ found_disagreed (found 0 (left_of x.kids) (firsts x.arguments x.parts)) f) a n b l
 
     -- the rule fits, and its bodies are those of the table
-    pub rule_fits_lem : (i j : ℕ) → FitTold vars 0 15 (count_of (get_or left 0 0)) left 1 term 1 table done (Done i j)
+    pub rule_fits_lem : (i j : ℕ) → FitTold vars 0 15 (count_of (get_or left 0 0)) left 1 term 1 table done (Some (i, j))
         → (bodies lengths : List ℕ) (d : Bool) → BodiesTold vars left term done room bodies lengths d → (c : Bool) → d ≡ c
         → (r : RuleMatch) → r.answer ≡ pick c answer.Done answer.Short → r.aside ≡ pick c (count_of (get_or term 0 0) - count_of (get_or left 0 0)) 0
         → RuleTold vars left term room bodies lengths r

@@ -6,8 +6,7 @@ use mathlib.Core.Option.{Option, none, some}
 use Prim.Native.Nat.{ℕ, ◌-◌, ◌≤◌, ◌<◌}
 use native.Mathlib.Omega.{arith}
 use lib.ListN.{length, replicate}
-use Rattle.term.specs.declared.check.Checked.{Checked}
-use Rattle.term.specs.declared.check.Checked.TheVariants.{Good, Bad}
+use Rattle.std.specs.Prelude.{Result, Ok, Err}
 use Rattle.term.specs.declared.answer.Answer.{Answer}
 use Rattle.term.specs.declared.answer.Answer.TheVariants.{Done, Over}
 use Rattle.term.specs.Row.{Row, nothing, width, words, ranks, nesting, Formed}
@@ -15,8 +14,6 @@ use Rattle.term.specs.Word.{pick}
 use Rattle.term.specs.Check.{check, term_limits}
 use Rattle.term.specs.Renumber.{inside}
 use Rattle.term.proofs.Laws.{never, tree_good, good_tree, width_nothing}
-use Rattle.book.specs.declared.accept.Accepted.{Accepted}
-use Rattle.book.specs.declared.accept.Accepted.TheVariants.{Sound, Refused}
 use Rattle.book.specs.Book.{Rule, rule_at}
 use Rattle.book.specs.Accept.{accept}
 use Rattle.book.proofs.Laws.{book_rule, refusal_number}
@@ -39,16 +36,16 @@ use Rattle.fit.proofs.Limits.{within_limits_lem}
 use Rattle.fit.proofs.BodyLists.{bodies_back, lengths_back, list_lengths, list_words, list_bodies}
 
 -- what refuses a book is not Done
-no_refusal : (book : List ℕ) (a : Answer) → accept book ≡ Refused a → a ≡ Done → ⊥
+no_refusal : (book : List ℕ) (a : Answer) → accept book ≡ Err a → a ≡ Done → ⊥
 no_refusal book a e z = let n = rw z at (refusal_number book a e) in absurd (omega (arith, n))
 
 -- ---- what was asked where a term was built, and that no refusal is Done
 pub record BuiltIs (book : List ℕ) (number : ℕ) (bodies lengths : List ℕ) (t : Row) : Type 0 where
   rule : Rule
-  accepted : accept book ≡ Sound
+  accepted : accept book ≡ Ok tt
   found : rule_at book number ≡ some rule
   lengths_good : good_lengths rule.vars bodies lengths ≡ true
-  bodies_good : check_bodies bodies lengths 0 rule.vars ≡ Good
+  bodies_good : check_bodies bodies lengths 0 rule.vars ≡ Ok tt
   is : build (given_bodies bodies lengths) 0 (left_in rule) ≡ t
   good : within_limits t ≡ true
 
@@ -57,28 +54,28 @@ module _ (book : List ℕ) (number : ℕ) (bodies lengths : List ℕ) where
   BuiltO (building.refused a) = a ≡ Done → ⊥
   BuiltO (built t) = BuiltIs book number bodies lengths t
 
-  with_limits : (rule : Rule) → accept book ≡ Sound → rule_at book number ≡ some rule → good_lengths rule.vars bodies lengths ≡ true → check_bodies bodies lengths 0 rule.vars ≡ Good
+  with_limits : (rule : Rule) → accept book ≡ Ok tt → rule_at book number ≡ some rule → good_lengths rule.vars bodies lengths ≡ true → check_bodies bodies lengths 0 rule.vars ≡ Ok tt
       → (c : Bool) → within_limits (build (given_bodies bodies lengths) 0 (left_in rule)) ≡ c → BuiltO (pick c (built (build (given_bodies bodies lengths) 0 (left_in rule))) (building.refused Over))
   with_limits rule a f l b true e = record { rule = rule; accepted = a; found = f; lengths_good = l; bodies_good = b; is = refl; good = e }
   with_limits rule a f l b false e = λ z. never (cc)
 
-  with_bodies_lem : (rule : Rule) → accept book ≡ Sound → rule_at book number ≡ some rule → good_lengths rule.vars bodies lengths ≡ true
-      → (c : Checked) → check_bodies bodies lengths 0 rule.vars ≡ c → BuiltO (with_bodies rule bodies lengths c)
+  with_bodies_lem : (rule : Rule) → accept book ≡ Ok tt → rule_at book number ≡ some rule → good_lengths rule.vars bodies lengths ≡ true
+      → (c : Result (Unit {0}) ℕ) → check_bodies bodies lengths 0 rule.vars ≡ c → BuiltO (with_bodies rule bodies lengths c)
   unfolding limited
-  with_bodies_lem rule a f l Good e = with_limits rule a f l e (within_limits (build (given_bodies bodies lengths) 0 (left_in rule))) refl
-  with_bodies_lem rule a f l (Bad x) e = λ z. never (cc)
+  with_bodies_lem rule a f l (Ok _) e = with_limits rule a f l e (within_limits (build (given_bodies bodies lengths) 0 (left_in rule))) refl
+  with_bodies_lem rule a f l (Err x) e = λ z. never (cc)
 
-  with_lengths_lem : (rule : Rule) → accept book ≡ Sound → rule_at book number ≡ some rule → (c : Bool) → good_lengths rule.vars bodies lengths ≡ c → BuiltO (with_lengths rule bodies lengths c)
+  with_lengths_lem : (rule : Rule) → accept book ≡ Ok tt → rule_at book number ≡ some rule → (c : Bool) → good_lengths rule.vars bodies lengths ≡ c → BuiltO (with_lengths rule bodies lengths c)
   with_lengths_lem rule a f true e = with_bodies_lem rule a f e (check_bodies bodies lengths 0 rule.vars) refl
   with_lengths_lem rule a f false e = λ z. never (cc)
 
-  with_rule_lem : accept book ≡ Sound → (o : Option Rule) → rule_at book number ≡ o → BuiltO (building.with_rule number bodies lengths o)
+  with_rule_lem : accept book ≡ Ok tt → (o : Option Rule) → rule_at book number ≡ o → BuiltO (building.with_rule number bodies lengths o)
   with_rule_lem a none e = λ z. never (cc)
   with_rule_lem a (some rule) e = with_lengths_lem rule a e (good_lengths rule.vars bodies lengths) refl
 
-  with_book_lem : (c : Accepted) → accept book ≡ c → BuiltO (building.with_book book number bodies lengths c)
-  with_book_lem Sound e = with_rule_lem e (rule_at book number) refl
-  with_book_lem (Refused a) e = no_refusal book a e
+  with_book_lem : (c : Result (Unit {0}) Answer) → accept book ≡ c → BuiltO (building.with_book book number bodies lengths c)
+  with_book_lem (Ok _) e = with_rule_lem e (rule_at book number) refl
+  with_book_lem (Err a) e = no_refusal book a e
 
   pub built_o : BuiltO (build_left book number bodies lengths)
   unfolding build_left
@@ -90,9 +87,9 @@ module _ (book : List ℕ) (number : ℕ) (bodies lengths : List ℕ) where
 -- ---- what was asked where a term was matched, and that no refusal is Done
 pub record MatchedIs (book : List ℕ) (number : ℕ) (ws : List ℕ) (vars n : ℕ) (b : ℕ → Row) : Type 0 where
   rule : Rule
-  accepted : accept book ≡ Sound
+  accepted : accept book ≡ Ok tt
   found : rule_at book number ≡ some rule
-  good : check term_limits ws ≡ Good
+  good : check term_limits ws ≡ Ok tt
   vars_is : rule.vars ≡ vars
   aside_is : aside (root_arguments (left_in rule)) (tree_of ws) ≡ n
   fits : matching_front (left_in rule) (tree_of ws) ≡ some b
@@ -102,22 +99,22 @@ module _ (book : List ℕ) (number : ℕ) (ws : List ℕ) where
   MatchedO (refused a) = a ≡ Done → ⊥
   MatchedO (fitted vars n b) = MatchedIs book number ws vars n b
 
-  with_fit : (rule : Rule) → accept book ≡ Sound → rule_at book number ≡ some rule → check term_limits ws ≡ Good
+  with_fit : (rule : Rule) → accept book ≡ Ok tt → rule_at book number ≡ some rule → check term_limits ws ≡ Ok tt
       → (o : Option (ℕ → Row)) → matching_front (left_in rule) (tree_of ws) ≡ o → MatchedO (fitted_o rule.vars (aside (root_arguments (left_in rule)) (tree_of ws)) o)
   with_fit rule a f g none e = λ z. never (cc)
   with_fit rule a f g (some b) e = record { rule = rule; accepted = a; found = f; good = g; vars_is = refl; aside_is = refl; fits = e }
 
-  with_term_lem : (rule : Rule) → accept book ≡ Sound → rule_at book number ≡ some rule → (c : Checked) → check term_limits ws ≡ c → MatchedO (with_term rule ws c)
-  with_term_lem rule a f Good e = with_fit rule a f e (matching_front (left_in rule) (tree_of ws)) refl
-  with_term_lem rule a f (Bad at) e = λ z. never (cc)
+  with_term_lem : (rule : Rule) → accept book ≡ Ok tt → rule_at book number ≡ some rule → (c : Result (Unit {0}) ℕ) → check term_limits ws ≡ c → MatchedO (with_term rule ws c)
+  with_term_lem rule a f (Ok _) e = with_fit rule a f e (matching_front (left_in rule) (tree_of ws)) refl
+  with_term_lem rule a f (Err at) e = λ z. never (cc)
 
-  term_rule_lem : accept book ≡ Sound → (o : Option Rule) → rule_at book number ≡ o → MatchedO (with_rule number ws o)
+  term_rule_lem : accept book ≡ Ok tt → (o : Option Rule) → rule_at book number ≡ o → MatchedO (with_rule number ws o)
   term_rule_lem a none e = λ z. never (cc)
   term_rule_lem a (some rule) e = with_term_lem rule a e (check term_limits ws) refl
 
-  term_book : (c : Accepted) → accept book ≡ c → MatchedO (with_book book number ws c)
-  term_book Sound e = term_rule_lem e (rule_at book number) refl
-  term_book (Refused a) e = no_refusal book a e
+  term_book : (c : Result (Unit {0}) Answer) → accept book ≡ c → MatchedO (with_book book number ws c)
+  term_book (Ok _) e = term_rule_lem e (rule_at book number) refl
+  term_book (Err a) e = no_refusal book a e
 
   pub matched_o : MatchedO (match_rule book number ws)
   unfolding match_rule
@@ -128,7 +125,7 @@ module _ (book : List ℕ) (number : ℕ) (ws : List ℕ) where
 
 -- ---- built, then matched
 -- a body's words are one term, and the tree that they are is the body
-pub body_good : (b : Row) → IsBody b → check term_limits (words b) ≡ Good
+pub body_good : (b : Row) → IsBody b → check term_limits (words b) ≡ Ok tt
 body_good b i = tree_good term_limits (words b) (body_is_term b i)
 
 pub body_tree : (b : Row) → IsBody b → tree_of (words b) ≡ b

@@ -8,7 +8,7 @@ use native.Mathlib.Omega.{arith}
 use lib.Dec.{ltb}
 use lib.ListN.{drop}
 use borrow.Author.Tests.{ltb-true}
-use Rattle.term.specs.declared.check.Checked.TheVariants.{Good}
+use Rattle.std.specs.Prelude.{Ok}
 use Rattle.term.specs.Word.{symbol, abstraction, variable, pattern}
 use Rattle.term.specs.Row.{Row, nothing, node, words, Formed}
 use Rattle.term.specs.Check.{Limits, IsTree, check, term_limits}
@@ -63,12 +63,12 @@ rule_stands rule f =
     })
 
 -- the left side of every rule of an accepted book
-pub accepted_stands : (book : List ℕ) → check_book book ≡ Good → (number : ℕ) (rule : Rule) → rule_at book number ≡ some rule
+pub accepted_stands : (book : List ℕ) → check_book book ≡ Ok tt → (number : ℕ) (rule : Rule) → rule_at book number ≡ some rule
     → LeftStands rule.vars 0 16 1 rule.left 0 (tree_of rule.left) []
 accepted_stands book accepted number rule e = rule_stands rule (book_rule book number rule accepted e)
 
 -- a good term
-pub term_standing : (ws : List ℕ) → check term_limits ws ≡ Good → TermStands 1 ws 0 (tree_of ws) []
+pub term_standing : (ws : List ℕ) → check term_limits ws ≡ Ok tt → TermStands 1 ws 0 (tree_of ws) []
 term_standing ws g =
     let i = good_tree term_limits (omega arith) ws g in
     rw (tree_of_lem term_limits ws i)

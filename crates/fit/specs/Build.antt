@@ -1,8 +1,6 @@
 -- What building a left side answers and leaves: document 01's numbers 12, 16, 11, 15, 13, in this order.
-use Rattle.std.specs.Prelude.{ℕ, zero, suc, ◌+◌, max, Bool, true, false, ◌&&◌, List, [], ◌∷◌, leb, eqb, length, get_or, take, drop, replicate}
+use Rattle.std.specs.Prelude.{ℕ, zero, suc, ◌+◌, max, Bool, true, false, ◌&&◌, List, [], ◌∷◌, leb, eqb, length, get_or, take, drop, replicate, Result, Ok, Err}
 use Rattle.std.proofs.Math.Option.{Option, none, some}
-use Rattle.term.specs.declared.check.Checked.{Checked}
-use Rattle.term.specs.declared.check.Checked.TheVariants.{Good, Bad}
 use Rattle.term.specs.declared.answer.Answer.{Answer}
 use Rattle.term.specs.declared.answer.Answer.TheVariants.{Done, BadTerm, Short, Over, NoRule}
 use Rattle.term.specs.Answer.{Answered, answered}
@@ -10,8 +8,6 @@ use Rattle.term.specs.Word.{Head, symbol, abstraction, variable, pattern, pick}
 use Rattle.term.specs.Row.{Row, nothing, node, words, nesting}
 use Rattle.term.specs.Check.{check, term_limits}
 use Rattle.term.specs.Part.{padded}
-use Rattle.book.specs.declared.accept.Accepted.{Accepted}
-use Rattle.book.specs.declared.accept.Accepted.TheVariants.{Sound, Refused}
 use Rattle.book.specs.Book.{Rule, rule_at}
 use Rattle.book.specs.Accept.{accept}
 use Rattle.fit.specs.Fit.{build}
@@ -37,13 +33,13 @@ all_zero (n ∷ ns) = eqb n 0 && all_zero ns
 unfoldable pub good_lengths : ℕ → List ℕ → List ℕ → Bool
 good_lengths vars bodies lengths = eqb (start_of lengths 16) (length bodies) && all_zero (drop vars lengths)
 
-abbrev pub body_next : ℕ → Checked → Checked → Checked
-body_next x Good later = later
-body_next x (Bad at) later = Bad x
+abbrev pub body_next : ℕ → Result (Unit {0}) ℕ → Result (Unit {0}) ℕ → Result (Unit {0}) ℕ
+body_next x (Ok _) later = later
+body_next x (Err at) later = Err x
 
 -- the first bad variable of so many from x on: a body "is itself one term"
-unfoldable pub check_bodies : List ℕ → List ℕ → ℕ → ℕ → Checked
-check_bodies bodies lengths x zero = Good
+unfoldable pub check_bodies : List ℕ → List ℕ → ℕ → ℕ → Result (Unit {0}) ℕ
+check_bodies bodies lengths x zero = Ok tt
 check_bodies bodies lengths x (suc more) = body_next x (check term_limits (words_at bodies lengths x)) (check_bodies bodies lengths (suc x) more)
 
 -- ---- the limits
@@ -70,9 +66,9 @@ pub data Built : Type 0 where
 unfoldable pub limited : Row → Built
 limited t = pick (within_limits t) (built t) (refused Over)
 
-abbrev pub with_bodies : Rule → List ℕ → List ℕ → Checked → Built
-with_bodies rule bodies lengths Good = limited (build (given_bodies bodies lengths) 0 (left_in rule))
-with_bodies rule bodies lengths (Bad x) = refused (BadTerm x)
+abbrev pub with_bodies : Rule → List ℕ → List ℕ → Result (Unit {0}) ℕ → Built
+with_bodies rule bodies lengths (Ok _) = limited (build (given_bodies bodies lengths) 0 (left_in rule))
+with_bodies rule bodies lengths (Err x) = refused (BadTerm x)
 
 abbrev pub with_lengths : Rule → List ℕ → List ℕ → Bool → Built
 with_lengths rule bodies lengths true = with_bodies rule bodies lengths (check_bodies bodies lengths 0 rule.vars)
@@ -82,9 +78,9 @@ abbrev pub with_rule : ℕ → List ℕ → List ℕ → Option Rule → Built
 with_rule number bodies lengths none = refused (NoRule number)
 with_rule number bodies lengths (some rule) = with_lengths rule bodies lengths (good_lengths rule.vars bodies lengths)
 
-abbrev pub with_book : List ℕ → ℕ → List ℕ → List ℕ → Accepted → Built
-with_book book number bodies lengths Sound = with_rule number bodies lengths (rule_at book number)
-with_book book number bodies lengths (Refused a) = refused a
+abbrev pub with_book : List ℕ → ℕ → List ℕ → List ℕ → Result (Unit {0}) Answer → Built
+with_book book number bodies lengths (Ok _) = with_rule number bodies lengths (rule_at book number)
+with_book book number bodies lengths (Err a) = refused a
 
 unfoldable pub build_left : List ℕ → ℕ → List ℕ → List ℕ → Built
 build_left book number bodies lengths = with_book book number bodies lengths (accept book)

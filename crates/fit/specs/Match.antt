@@ -1,9 +1,7 @@
 -- What matching one rule answers and leaves: document 01's numbers 12, 16, 11, 1, 13, in this order. Document 02: the rule is for a front part of the
 -- arguments (Front.antt), and the answer counts those set aside.
-use Rattle.std.specs.Prelude.{ℕ, zero, suc, ◌-◌, ◌≡◌, List, [], ◌∷◌, ◌++◌, leb, length, replicate}
+use Rattle.std.specs.Prelude.{ℕ, zero, suc, ◌-◌, ◌≡◌, List, [], ◌∷◌, ◌++◌, leb, length, replicate, Result, Ok, Err}
 use Rattle.std.proofs.Math.Option.{Option, none, some}
-use Rattle.term.specs.declared.check.Checked.{Checked}
-use Rattle.term.specs.declared.check.Checked.TheVariants.{Good, Bad}
 use Rattle.term.specs.declared.answer.Answer.{Answer}
 use Rattle.term.specs.declared.answer.Answer.TheVariants.{Done, NoFit, BadTerm, Short, NoRule}
 use Rattle.term.specs.Answer.{Answered, answered}
@@ -11,8 +9,6 @@ use Rattle.term.specs.Word.{pick}
 use Rattle.term.specs.Row.{Row, nothing, words, Got, read}
 use Rattle.term.specs.Check.{check, term_limits}
 use Rattle.term.specs.Part.{padded}
-use Rattle.book.specs.declared.accept.Accepted.{Accepted}
-use Rattle.book.specs.declared.accept.Accepted.TheVariants.{Sound, Refused}
 use Rattle.book.specs.Book.{Rule, rule_at}
 use Rattle.book.specs.Accept.{accept}
 use Rattle.fit.specs.Left.{Left, left_of}
@@ -53,17 +49,17 @@ abbrev pub fitted_o : (vars aside : ℕ) → Option (ℕ → Row) → Matched
 fitted_o vars n none = refused NoFit
 fitted_o vars n (some b) = fitted vars n b
 
-abbrev pub with_term : Rule → List ℕ → Checked → Matched
-with_term rule ws Good = fitted_o rule.vars (aside (root_arguments (left_in rule)) (tree_of ws)) (matching_front (left_in rule) (tree_of ws))
-with_term rule ws (Bad at) = refused (BadTerm at)
+abbrev pub with_term : Rule → List ℕ → Result (Unit {0}) ℕ → Matched
+with_term rule ws (Ok _) = fitted_o rule.vars (aside (root_arguments (left_in rule)) (tree_of ws)) (matching_front (left_in rule) (tree_of ws))
+with_term rule ws (Err at) = refused (BadTerm at)
 
 abbrev pub with_rule : ℕ → List ℕ → Option Rule → Matched
 with_rule number ws none = refused (NoRule number)
 with_rule number ws (some rule) = with_term rule ws (check term_limits ws)
 
-abbrev pub with_book : List ℕ → ℕ → List ℕ → Accepted → Matched
-with_book book number ws Sound = with_rule number ws (rule_at book number)
-with_book book number ws (Refused a) = refused a
+abbrev pub with_book : List ℕ → ℕ → List ℕ → Result (Unit {0}) Answer → Matched
+with_book book number ws (Ok _) = with_rule number ws (rule_at book number)
+with_book book number ws (Err a) = refused a
 
 unfoldable pub match_rule : List ℕ → ℕ → List ℕ → Matched
 match_rule book number ws = with_book book number ws (accept book)

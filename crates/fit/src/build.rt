@@ -1,22 +1,21 @@
 // A left side built from bodies: document 01's "Fit", read from the bodies to the term.
-ghost use Rattle.std.specs.Prelude.{◌≡◌, ◌+◌, ◌-◌, ◌≤◌, length};
+ghost use Rattle.std.specs.Prelude.{◌≡◌, ◌+◌, ◌-◌, ◌≤◌, ◌<◌, length};
 ghost use Rattle.term.specs.Answer.{answered};
 ghost use Rattle.fit.specs.Build.{start_of, good_lengths, check_bodies, build_left_came, build_left_gives};
-ghost use Rattle.fit.specs.Told.BuildWalk.{BodyBuilt, HoleBuilt, LeftBuilt, RuleBuilt};
+ghost use Rattle.fit.specs.Told.BuildWalk.{BodyAt, BodyBuilt, HoleBuilt, LeftBuilt, RuleBuilt};
 
-use crate::fitting::Both;
-use book::accept::{Accepted, accept_book};
-use book::book::{Found, find_rule};
+use book::accept::accept_book;
+use book::book::find_rule;
 use book::ids::ids_of;
 use book::limits::MOST_VARS_LONG;
 use term::answer::Answer;
-use term::check::{Checked, MOST_LEVELS, MOST_WORDS, check_term};
+use term::check::{MOST_LEVELS, MOST_WORDS, check_term};
 use term::lent::{clear, put};
 use term::part::write_below;
-use term::renumber::{Passed, inside_word};
+use term::renumber::inside_word;
 use term::word::{PATTERN, count_of, id_of, kind_of};
 
-// The place of bad lengths: no variable has this number.
+// The place of bad lengths: no variable has this number. A place, not a None: `build_left_gives` of specs/Build.antt answers it.
 const AT_LENGTHS: usize = 16;
 
 // How many words stand before the body of a variable.
@@ -24,81 +23,72 @@ pub fn start_of(lengths: &[u32], x: usize) -> usize
     requires { (x ≤ 16) × (length lengths.now ≡ 16) }
     ensures { result ≡ start_of lengths.now x }
 {
-    let mut sum: usize = 0;
-    let mut i: usize = 0;
-    while i < x {
-        sum = sum + lengths[i] as usize;
-        i += 1;
-    }
-    sum
+    lengths[..x].iter().map(|n| *n as usize).sum()
 }
 
-// Whether the lengths sum to the bodies, and none stands at an unused variable.
-fn good_lengths(vars: u32, bodies: &[u32], lengths: &[u32]) -> bool
-    requires { length lengths.now ≡ 16 }
-    ensures { result ≡ good_lengths vars bodies.now lengths.now }
-{
-    if start_of(lengths, MOST_VARS_LONG) != bodies.len() {
-        return false;
+// One list of words in variable order, and how many of them each variable has: so C lends them.
+#[derive(Clone, Copy)]
+struct Bodies<'a> {
+    words: &'a [u32],
+    lengths: &'a [u32; 16],
+}
+
+impl<'a> Bodies<'a> {
+    // The words of the body of x, where they do not run past the list.
+    fn body(&self, x: usize) -> Option<&'a [u32]>
+        requires { x < 16 }
+        ensures { BodyAt self.now.words.now self.now.lengths.now x result }
+    {
+        let lengths = self.lengths;
+        self.words
+            .get(start_of(lengths, x)..start_of(lengths, x + 1))
     }
-    let mut x = vars as usize;
-    while x < MOST_VARS_LONG {
-        if lengths[x] != 0 {
-            return false;
+
+    // Whether the lengths sum to the words, and none stands at an unused variable.
+    fn good_lengths(&self, vars: u32) -> bool
+        ensures { result ≡ good_lengths vars self.now.words.now self.now.lengths.now }
+    {
+        let lengths = self.lengths;
+        start_of(lengths, MOST_VARS_LONG) == self.words.len()
+            && lengths.iter().skip(vars as usize).all(|n| *n == 0)
+    }
+
+    // Ok where each variable's body is a term, else the first variable whose body is none. The lengths are to sum to the words.
+    fn check_bodies(&self, vars: u32) -> Result<(), usize>
+        requires { vars ≤ 16 }
+        ensures { start_of self.now.lengths.now 16 ≡ length self.now.words.now → result ≡ check_bodies self.now.words.now self.now.lengths.now 0 vars }
+    {
+        // A loop: find gives an Option, which would be turned into a Result again.
+        for x in 0..vars as usize {
+            if !self.body(x).is_some_and(|body| check_term(body).is_ok()) {
+                return Err(x);
+            }
         }
-        x += 1;
+        Ok(())
     }
-    true
 }
 
-// Good where each variable's body is a term, else the first variable whose body is none. The lengths are to sum to the bodies.
-fn check_bodies(vars: u32, bodies: &[u32], lengths: &[u32]) -> Checked
-    requires { (vars ≤ 16) × (length lengths.now ≡ 16) }
-    ensures { start_of lengths.now 16 ≡ length bodies.now → result ≡ check_bodies bodies.now lengths.now 0 vars }
-{
-    let mut x: usize = 0;
-    while x < vars as usize {
-        let start = start_of(lengths, x);
-        let end = start_of(lengths, x + 1);
-        if bodies.len() < end {
-            return Checked::Bad(x);
-        }
-        let Checked::Good = check_term(&bodies[start..end]) else {
-            return Checked::Bad(x);
-        };
-        x += 1;
-    }
-    Checked::Good
-}
-
-// The offset itself, or the end where it is past it.
-fn at_most(room: usize, at: usize) -> usize
-    ensures { result ≡ room - (room - at) }
-{
-    if at < room {
-        return at;
-    }
-    room
-}
-
-// Writes the part of a term that a body stands for, from an offset on. Stuck where it is over the limits there.
-fn write_part(d: u32, list: &[u32], levels: u32, body: &[u32], out: &mut [u32], to: usize) -> Passed
+// Writes the part of a term that a body stands for, from an offset on, and says where it ends. None where it is over the limits there.
+fn write_part(
+    d: u32,
+    list: &[u32],
+    levels: u32,
+    body: &[u32],
+    out: &mut [u32],
+    to: usize,
+) -> Option<usize>
     requires { (length list.now ≤ 4) × (levels ≤ 64) }
     ensures { BodyBuilt d list.now levels body.now out.old to out.new result }
 {
     if MOST_WORDS < to {
-        return Passed::Stuck;
+        return None;
     }
-    let from = at_most(out.len(), to);
-    match write_below(body, d, list, levels, &mut out[from..]) {
-        Passed::Done(n) => {
-            if MOST_WORDS - to < n {
-                return Passed::Stuck;
-            }
-            Passed::Done(to + n)
-        }
-        Passed::Stuck => Passed::Stuck,
+    let from = to.min(out.len());
+    let n = write_below(body, d, list, levels, &mut out[from..])?;
+    if MOST_WORDS - to < n {
+        return None;
     }
+    Some(to + n)
 }
 
 // Writes what a pattern variable's word and the list after it stand for. A good left side with good bodies passes its tests, which
@@ -108,132 +98,100 @@ fn build_variable(
     after: &[u32],
     d: u32,
     levels: u32,
-    bodies: &[u32],
-    lengths: &[u32],
+    bodies: &Bodies,
     out: &mut [u32],
     to: usize,
-) -> Passed
-    requires { (levels ≤ 64) × (length lengths.now ≡ 16) }
-    ensures { HoleBuilt w after.now d levels bodies.now lengths.now out.old to out.new result }
+) -> Option<usize>
+    requires { levels ≤ 64 }
+    ensures { HoleBuilt w after.now d levels bodies.now.words.now bodies.now.lengths.now out.old to out.new result }
 {
     let k = count_of(w) as usize;
     let x = id_of(w) as usize;
-    let found = ids_of(after, k);
-    let all = found.all;
-    if !all {
-        return Passed::Stuck;
-    }
+    let ids = ids_of(after, k)?;
     if MOST_VARS_LONG <= x {
-        return Passed::Stuck;
+        return None;
     }
-    let start = start_of(lengths, x);
-    let end = start_of(lengths, x + 1);
-    if bodies.len() < end {
-        return Passed::Stuck;
-    }
-    let ids = found.ids;
-    write_part(d, &ids[..k], levels, &bodies[start..end], out, to)
+    let body = bodies.body(x)?;
+    write_part(d, &ids[..k], levels, body, out, to)
 }
 
-// Builds one tree of a left side, at `at` under d abstractions.
-#[cycle(build_row_build_tree)]
+// Builds one tree of a left side, at `at` under d abstractions: the offsets after it and after what it builds, or None where it is over the limits.
+#[cycle(building)]
 fn build_tree(
     d: u32,
     levels: u32,
     left: &[u32],
     at: usize,
-    bodies: &[u32],
-    lengths: &[u32],
+    bodies: &Bodies,
     out: &mut [u32],
     to: usize,
-) -> Both
-    requires { (d + levels ≤ 64) × (length lengths.now ≡ 16) }
-    ensures { LeftBuilt d levels 1 left.now at bodies.now lengths.now out.old to out.new result }
+) -> Option<(usize, usize)>
+    requires { d + levels ≤ 64 }
+    ensures { LeftBuilt d levels 1 left.now at bodies.now.words.now bodies.now.lengths.now out.old to out.new result }
 {
     if levels == 0 {
-        return Both::Stuck;
+        return None;
     }
-    if left.len() <= at {
-        return Both::Stuck;
-    }
-    let w = left[at];
+    let w = *left.get(at)?;
     let k = count_of(w);
     let next = at + 1;
     if kind_of(w) == PATTERN {
-        let built = build_variable(w, &left[next..], d, levels, bodies, lengths, out, to);
-        let Passed::Done(end) = built else {
-            return Both::Stuck;
-        };
-        return Both::Done(next + k as usize, end);
+        let end = build_variable(w, &left[next..], d, levels, bodies, out, to)?;
+        return Some((next + k as usize, end));
     }
     if MOST_WORDS <= to {
-        return Both::Stuck;
+        return None;
     }
     put(out, to, w);
     let inner = inside_word(w, d);
     let then = to + 1;
-    build_row(inner, levels - 1, k, left, next, bodies, lengths, out, then)
+    build_row(inner, levels - 1, k, left, next, bodies, out, then)
 }
 
 // Builds `count` trees of a left side.
-#[cycle(build_row_build_tree)]
+#[cycle(building)]
 fn build_row(
     d: u32,
     levels: u32,
     count: u32,
     left: &[u32],
     at: usize,
-    bodies: &[u32],
-    lengths: &[u32],
+    bodies: &Bodies,
     out: &mut [u32],
     to: usize,
-) -> Both
-    requires { (d + levels ≤ 64) × (length lengths.now ≡ 16) }
-    ensures { LeftBuilt d levels count left.now at bodies.now lengths.now out.old to out.new result }
+) -> Option<(usize, usize)>
+    requires { d + levels ≤ 64 }
+    ensures { LeftBuilt d levels count left.now at bodies.now.words.now bodies.now.lengths.now out.old to out.new result }
 {
     let mut a = at;
     let mut b = to;
-    let mut more = count;
-    while more != 0 {
-        match build_tree(d, levels, left, a, bodies, lengths, out, b) {
-            Both::Done(p, q) => {
-                a = p;
-                b = q;
-                more = more - 1;
-            }
-            Both::Stuck => {
-                return Both::Stuck;
-            }
-        }
+    for _ in 0..count {
+        (a, b) = build_tree(d, levels, left, a, bodies, out, b)?;
     }
-    Both::Done(a, b)
+    Some((a, b))
 }
 
 // Builds the left side of a rule of an accepted book, once the lengths and the bodies are judged.
-fn build_given(vars: u32, left: &[u32], bodies: &[u32], lengths: &[u32], out: &mut [u32]) -> Answer
-    requires { (vars ≤ 16) × (length lengths.now ≡ 16) }
-    ensures { RuleBuilt vars left.now bodies.now lengths.now (length out.old) result out.new }
+fn build_given(vars: u32, left: &[u32], bodies: &Bodies, out: &mut [u32]) -> Answer
+    requires { vars ≤ 16 }
+    ensures { RuleBuilt vars left.now bodies.now.words.now bodies.now.lengths.now (length out.old) result out.new }
 {
     clear(out);
-    if !good_lengths(vars, bodies, lengths) {
+    if !bodies.good_lengths(vars) {
         return Answer::BadTerm(AT_LENGTHS);
     }
-    if let Checked::Bad(x) = check_bodies(vars, bodies, lengths) {
+    if let Err(x) = bodies.check_bodies(vars) {
         return Answer::BadTerm(x);
     }
-    match build_row(0, MOST_LEVELS, 1, left, 0, bodies, lengths, out, 0) {
-        Both::Done(_, n) => {
-            if n <= out.len() {
-                return Answer::Done;
-            }
-            clear(out);
-            Answer::Short
-        }
-        Both::Stuck => {
-            clear(out);
-            Answer::Over
-        }
+    let Some((_, n)) = build_row(0, MOST_LEVELS, 1, left, 0, bodies, out, 0) else {
+        clear(out);
+        return Answer::Over;
+    };
+    if out.len() < n {
+        clear(out);
+        return Answer::Short;
     }
+    Answer::Done
 }
 
 // Builds the left side of a rule from bodies, one list in variable order with sixteen lengths beside it.
@@ -246,15 +204,17 @@ pub fn build_left(
 ) -> Answer
     ensures { build_left_came (answered result) out.new ≡ build_left_gives book.now number bodies.now lengths.now (length out.old) }
 {
-    if let Accepted::Refused(answer) = accept_book(book) {
+    if let Err(answer) = accept_book(book) {
         clear(out);
         return answer;
     }
-    let Found::Rule(sides) = find_rule(book, number) else {
+    let Some(sides) = find_rule(book, number) else {
         clear(out);
         return Answer::NoRule(number);
     };
-    let left = sides.left;
-    let right = sides.right;
-    build_given(sides.vars, &book[left..right], bodies, lengths, out)
+    let given = Bodies {
+        words: bodies,
+        lengths,
+    };
+    build_given(sides.vars, sides.left(book), &given, out)
 }

@@ -5,16 +5,16 @@ ghost use Rattle.fit.specs.Match.{match_rule_came, match_rule_gives};
 ghost use Rattle.fit.specs.Told.Told.{covered_word, RuleTold};
 
 use crate::bodies::write_bodies;
-use crate::fitting::{Both, TABLE, fit_row};
-use book::accept::{Accepted, accept_book};
-use book::book::{Found, find_rule};
+use crate::fitting::{Pair, TABLE};
+use book::accept::accept_book;
+use book::book::find_rule;
 use book::limits::SIDE_LEVELS;
 use term::answer::Answer;
-use term::check::{Checked, check_term};
+use term::check::check_term;
 use term::lent::clear;
 use term::word::{SYMBOL, count_of, id_of, kind_of};
 
-// The answer, and how many arguments are set aside; 0 where no rule fits.
+// The answer, and how many arguments are set aside; 0 where no rule fits. Not a Result: the contract of match_rule names both, at each answer.
 #[derive(Clone, Copy)]
 pub struct RuleMatch {
     pub answer: Answer,
@@ -24,48 +24,35 @@ pub struct RuleMatch {
 fn refuse(answer: Answer) -> RuleMatch
     ensures { (result.answer ≡ answer) × (result.aside ≡ 0) }
 {
-    RuleMatch {
-        answer: answer,
-        aside: 0,
-    }
+    RuleMatch { answer, aside: 0 }
 }
 
 // Whether v is the symbol of w with no fewer arguments.
 fn is_covered(w: u32, v: u32) -> bool
     ensures { covered_word w v ≡ result }
 {
-    if kind_of(v) != SYMBOL {
-        return false;
-    }
-    if id_of(w) != id_of(v) {
-        return false;
-    }
-    count_of(w) <= count_of(v)
+    kind_of(v) == SYMBOL && id_of(w) == id_of(v) && count_of(w) <= count_of(v)
 }
 
-// A rule over a term, with a cleared table and cleared outputs. The left side's arguments are walked beside as many of the term.
-fn fit_rule(
-    vars: u32,
-    left: &[u32],
-    term: &[u32],
-    table: &mut [u32],
-    bodies: &mut [u32],
-    lengths: &mut [u32],
-) -> RuleMatch
-    requires { (vars ≤ 16) × (0 < length left.now) × (length left.now ≤ 64) × (0 < length term.now) × (length term.now ≤ 4096) × (table.old ≡ replicate 48 0)
-        × (bodies.old ≡ replicate (length bodies.old) 0) × (lengths.old ≡ replicate 16 0) }
-    ensures { RuleTold vars left.now term.now (length bodies.old) bodies.new lengths.new result }
+// A rule over a term, with cleared outputs. The left side's arguments are walked beside as many of the term.
+fn fit_rule(pair: &Pair, bodies: &mut [u32], lengths: &mut [u32; 16]) -> RuleMatch
+    requires { (bodies.old ≡ replicate (length bodies.old) 0) × (lengths.old ≡ replicate 16 0) }
+    ensures { RuleTold pair.now.vars pair.now.left.now pair.now.term.now (length bodies.old) bodies.new lengths.new result }
 {
-    let w = left[0];
-    let v = term[0];
+    let w = pair.left[0];
+    let v = pair.term[0];
     if !is_covered(w, v) {
         return refuse(Answer::NoFit);
     }
     let b = count_of(w);
-    if let Both::Stuck = fit_row(vars, 0, SIDE_LEVELS - 1, b, left, 1, term, 1, table) {
+    let mut table = [0u32; TABLE];
+    if pair
+        .fit_row(0, SIDE_LEVELS - 1, b, 1, 1, &mut table)
+        .is_none()
+    {
         return refuse(Answer::NoFit);
     }
-    if !write_bodies(vars, left, term, table, bodies, lengths) {
+    if !write_bodies(pair, &table, bodies, lengths) {
         return refuse(Answer::Short);
     }
     RuleMatch {
@@ -86,24 +73,19 @@ pub fn match_rule(
 {
     clear(bodies);
     clear(lengths);
-    if let Accepted::Refused(answer) = accept_book(book) {
+    if let Err(answer) = accept_book(book) {
         return refuse(answer);
     }
-    let Found::Rule(sides) = find_rule(book, number) else {
+    let Some(sides) = find_rule(book, number) else {
         return refuse(Answer::NoRule(number));
     };
-    if let Checked::Bad(at) = check_term(term) {
+    if let Err(at) = check_term(term) {
         return refuse(Answer::BadTerm(at));
     }
-    let left = sides.left;
-    let right = sides.right;
-    let mut table = [0u32; TABLE];
-    fit_rule(
-        sides.vars,
-        &book[left..right],
+    let pair = Pair {
+        vars: sides.vars,
+        left: sides.left(book),
         term,
-        &mut table,
-        bodies,
-        lengths,
-    )
+    };
+    fit_rule(&pair, bodies, lengths)
 }

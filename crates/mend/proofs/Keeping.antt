@@ -224,11 +224,10 @@ module _ (bs : List ℕ) (at : ℕ) where
               let z : suc old ≡ old + 1 = omega arith in
               rw (append_assoc i.rules (ws ∷ []) others) (i.olds_so (ws ∷ others) ∙ rw (number_goes new ws others old g, z))
 
-      pub rule_stayed : stays new (take (to + n - to) (drop to done)) ≡ true → length olds ≡ 64 → (last : List ℕ) → last ≡ set olds new (old + 1 - 1) → Reading bs at done last next (old + 1) (new + 1) (to + n)
+      pub rule_stayed : stays new (take (to + n - to) (drop to done)) ≡ true → length olds ≡ 64 → (last : List ℕ) → last ≡ set olds new old → Reading bs at done last next (old + 1) (new + 1) (to + n)
       rule_stayed q o last p =
           let g = judged true q in
           let f = stays_few ws new g in
-          let y : old + 1 - 1 ≡ old = omega arith in
           record {
             rules = i.rules ++ (ws ∷ []);
             stayed = i.stayed ++ (ws ∷ []);
@@ -240,7 +239,7 @@ module _ (bs : List ℕ) (at : ℕ) where
             stayed_new = length-append i.stayed (ws ∷ []) ∙ omega (arith, i.stayed_new);
             words = words_then;
             size = rw (together_last i.stayed ws, length-append (together i.stayed) ws) (omega (arith, i.size, s));
-            positions = let z : new + 1 ≡ suc new = omega arith in rw (z, p, y) (take-suc-set olds new old (omega (arith, o, f)) ∙ rw i.positions);
+            positions = let z : new + 1 ≡ suc new = omega arith in rw (z, p) (take-suc-set olds new old (omega (arith, o, f)) ∙ rw i.positions);
             inside = inside;
             few = further;
             short = omega (arith, i.short, few_words);

@@ -11,10 +11,9 @@ use lib.ListN.{length, length-append}
 use borrow.Author.Tests.{ltb-true, ltb-false, lt-ltb, eq-eqb}
 use Rattle.term.specs.declared.answer.Answer.{Answer}
 use Rattle.term.specs.declared.answer.Answer.TheVariants.{BadBook}
-use Rattle.term.specs.declared.check.Checked.TheVariants.{Good}
+use Rattle.std.specs.Prelude.{Ok, Err}
 use Rattle.term.specs.Word.{pick}
 use Rattle.term.proofs.Laws.{never, and_left, and_right}
-use Rattle.book.specs.declared.accept.Accepted.TheVariants.{Sound, Refused}
 use Rattle.book.specs.Accept.{accept}
 use Rattle.book.specs.Book.{sound, book_of, check_book}
 use Rattle.book.proofs.Laws.{Whole, AllWhole, AllSound, sound_book, many_refused, unsound_refused, book_sound, good_accepted, bad_refused, accepted_good}
@@ -114,11 +113,11 @@ module _ (text : List ℕ) (stated : ℕ) (rules : List (List ℕ)) (m : mail_sa
   new_sound : AllSound (kept_from 0 rules) × (length (kept_from 0 rules) ≤ 64)
   new_sound = (kept_sound 0 rules (mail_facts text stated rules m).whole, few rules)
 
-  new_good : check_book (new_book rules) ≡ Good
+  new_good : check_book (new_book rules) ≡ Ok tt
   unfolding new_book
   new_good = sound_book (kept_from 0 rules) new_sound.0 new_sound.1
 
-  new_accepted : accept (new_book rules) ≡ Sound
+  new_accepted : accept (new_book rules) ≡ Ok tt
   new_accepted = good_accepted (new_book rules) new_good
 
   new_read : length (book_text (new_book rules)) ≤ 65536 → book_said (book_text (new_book rules)) ≡ says (book_of (kept_from 0 rules))
@@ -138,7 +137,7 @@ notes_all n [] s h = refl
 notes_all n (rule ∷ rules) s h =
     rw (sound_stays n rule s.1 (omega (arith, h))) (ap (λ (x : List Note). kept n n ∷ x) (notes_all (suc n) rules s.2 (omega (arith, h))))
 
-good_few : (rules : List (List ℕ)) → check_book (book_of rules) ≡ Good → length rules ≤ 64
+good_few : (rules : List (List ℕ)) → check_book (book_of rules) ≡ Ok tt → length rules ≤ 64
 good_few rules g = go (ltb 64 (length rules)) refl
   where
     go : (b : Bool) → ltb 64 (length rules) ≡ b → length rules ≤ 64
@@ -167,10 +166,10 @@ sound_back text book rules e m b s h =
       then_kept = all_repaired rules s h ∙ ap (λ (x : List ℕ). x ++ notes_text (all_kept 0 (length rules))) t;
     }
 
-sound_returns : (text book : List ℕ) → book_said text ≡ says book → accept book ≡ Sound → (rules : List (List ℕ)) × ComesBack text book rules
+sound_returns : (text book : List ℕ) → book_said text ≡ says book → accept book ≡ Ok tt → (rules : List (List ℕ)) × ComesBack text book rules
 sound_returns text book e a =
     let r = book_mail text book e in
-    let g : check_book (book_of r.0) ≡ Good = ap check_book r.2 ∙ accepted_good book a in
+    let g : check_book (book_of r.0) ≡ Ok tt = ap check_book r.2 ∙ accepted_good book a in
     let f = mail_facts text (length r.0) r.0 r.1 in
     (r.0, sound_back text book r.0 e r.1 r.2 (book_sound r.0 f.whole g) (good_few r.0 g))
 
@@ -198,7 +197,7 @@ module _ (front : List (List ℕ)) (rule : List ℕ) (back : List (List ℕ)) wh
   stayed e = kept_after ∙ rw e
 
   refused_back : (more : List (List ℕ)) → AllWhole front → Whole rule → (sound rule ≡ false) ⊎ (kept_before front ≡ 64)
-      → (a : Answer) × (accept (book_of (kept_from 0 front ++ (rule ∷ more))) ≡ Refused a)
+      → (a : Answer) × (accept (book_of (kept_from 0 front ++ (rule ∷ more))) ≡ Err a)
   refused_back more w v (inl u) =
       let r = unsound_refused (kept_from 0 front) rule more (kept_sound 0 front w) v u in
       (BadBook r.0, bad_refused (book_of (kept_from 0 front ++ (rule ∷ more))) r.0 r.1)

@@ -4,9 +4,8 @@ use mathlib.Core.Bool.{Bool, true, false}
 use mathlib.Core.List.{List, [], ◌∷◌, ◌++◌, append_assoc, append-nil}
 use Prim.Native.Nat.{ℕ, suc, ◌+◌, ◌-◌, ◌≤◌, ◌<◌}
 use native.Mathlib.Omega.{arith}
-use lib.Dec.{eqb}
-use lib.ListN.{length, drop, get_or, set, length-append, drop_of_length-le}
-use lib.Seq.{drop-cons, drop-drop}
+use lib.ListN.{length, drop, set, length-append}
+use lib.Seq.{drop-drop}
 use borrow.Author.Tests.{eq-eqb, ne_eqb}
 use Rattle.term.specs.Word.{pick}
 use Rattle.text.specs.Number.{decimal}
@@ -38,13 +37,6 @@ notes_same old new (rule ∷ rules) =
         ≡ pick b (kept old new ∷ notes_from (suc old) (suc new) rules) (dropped old ∷ notes_from (suc old) new rules)
     go true l p q = rw (eq-eqb old old refl, p)
     go false l p q = rw (l, q)
-
--- ---- whether a rule is the next that was kept
-pub past_olds : (olds : List ℕ) (new old : ℕ) → length olds ≤ new → false ≡ first_is old (drop new olds)
-past_olds olds new old h = rw (drop_of_length-le olds {i = new} h)
-
-pub next_old : (olds : List ℕ) (new old : ℕ) (r : Bool) → new < length olds → r ≡ eqb (get_or olds new 0) old → r ≡ first_is old (drop new olds)
-next_old olds new old r h e = rw (drop-cons olds new 0 h) e
 
 -- ---- one line
 kept_parts : (old new : ℕ) → note_text (kept old new) ≡ ((((kept_key ++ decimal old) ++ (32 ∷ [])) ++ decimal new) ++ (10 ∷ []))

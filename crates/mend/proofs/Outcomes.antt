@@ -8,18 +8,18 @@ use native.Mathlib.Omega.{arith}
 use lib.Dec.{leb}
 use lib.ListN.{length, replicate}
 use borrow.Author.Tests.{leb-true, leb-false, le-leb}
+use Rattle.std.specs.Prelude.{Result, Ok, Err}
 use Rattle.term.specs.declared.answer.Answer.{Answer}
 use Rattle.term.specs.declared.answer.Answer.TheVariants.{Done, Short, BadText}
 use Rattle.term.specs.Answer.{answered}
 use Rattle.term.specs.Word.{pick}
 use Rattle.term.specs.Part.{padded}
-use Rattle.term.proofs.Laws.{answered_same}
+use Rattle.term.proofs.Laws.{never, answered_same}
 use Rattle.text.specs.BookText.{book_text}
 use Rattle.text.specs.Mail.{Mail, mail_is, bad_mail, mail_said}
 use Rattle.text.proofs.Laws.{mail_line, mail_long}
-use Rattle.mend.specs.declared.repair.Repaired.{Repaired}
 use Rattle.mend.specs.Repair.{new_book, repaired_text, repair_answer, repair_bytes, RepairBookOutcome, repair_book_came, repair_book_gives}
-use Rattle.mend.specs.Told.Told.{RepairTold}
+use Rattle.mend.specs.Told.Told.{answer_of, RepairTold}
 use Rattle.mend.proofs.Sizes.{repaired_short}
 
 module _ (text : List ℕ) (room : ℕ) where
@@ -41,14 +41,14 @@ module _ (text : List ℕ) (room : ℕ) where
 
 -- ---- where there is room for every repaired text
 -- the repaired text stands in front, or the new book is over 65,536 bytes
-abbrev pub Mended : Bool → (room : ℕ) (text done : List ℕ) → Repaired → Type 0
-Mended true room text done r = (r.answer ≡ Done) × (r.length ≡ length text) × (length text ≤ room) × (done ≡ padded room text)
-Mended false room text done r = (r.answer ≡ Short) × (done ≡ replicate room 0)
+abbrev pub Mended : Bool → (room : ℕ) (text done : List ℕ) → Result ℕ Answer → Type 0
+Mended true room text done r = (r ≡ Ok (length text)) × (length text ≤ room) × (done ≡ padded room text)
+Mended false room text done r = (r ≡ Err Short) × (done ≡ replicate room 0)
 
 -- or a line is not in form
-abbrev pub Mends : (room : ℕ) → Mail → (done : List ℕ) → Repaired → Type 0
+abbrev pub Mends : (room : ℕ) → Mail → (done : List ℕ) → Result ℕ Answer → Type 0
 Mends room (mail_is stated rules) done r = Mended (leb (length (book_text (new_book rules))) 65536) room (repaired_text stated rules) done r
-Mends room (bad_mail line) done r = (r.answer ≡ BadText line) × (line ≤ 65542) × (done ≡ replicate room 0)
+Mends room (bad_mail line) done r = (r ≡ Err (BadText line)) × (line ≤ 65542) × (done ≡ replicate room 0)
 
 -- a line that is not in form is one of a text within its bytes
 abbrev line_of : Mail → ℕ
@@ -62,21 +62,26 @@ line_few bs line e = go (leb (length bs) 65536) refl
     go true q = omega (arith, mail_line bs line e, leb-true (length bs) 65536 q)
     go false q = let z : line ≡ 0 = ap line_of (sym e ∙ mail_long bs (leb-false (length bs) 65536 q)) in omega arith
 
-module _ (bs : List ℕ) (room : ℕ) (done : List ℕ) (r : Repaired) (t : RepairTold bs room done r) (enough : 131088 ≤ room) where
+-- an answer other than 0 is a refusal
+refusal_of : (r : Result ℕ Answer) (a : Answer) → answer_of r ≡ a → (a ≡ Done → ⊥) → r ≡ Err a
+refusal_of (Ok n) a e d = absurd (d (sym e))
+refusal_of (Err b) a e d = ap Err e
+
+module _ (bs : List ℕ) (room : ℕ) (done : List ℕ) (r : Result ℕ Answer) (t : RepairTold bs room done r) (enough : 131088 ≤ room) where
   by_size : (stated : ℕ) (rules : List (List ℕ)) (b : Bool) → leb (length (book_text (new_book rules))) 65536 ≡ b → mail_said bs ≡ mail_is stated rules
-      → r.answer ≡ pick b (pick (leb (length (repaired_text stated rules)) room) Done Short) Short → done ≡ pick b (padded room (repaired_text stated rules)) (replicate room 0)
+      → answer_of r ≡ pick b (pick (leb (length (repaired_text stated rules)) room) Done Short) Short → done ≡ pick b (padded room (repaired_text stated rules)) (replicate room 0)
       → Mended b room (repaired_text stated rules) done r
   by_size stated rules true e m a d =
       let l = repaired_short bs stated rules m (leb-true (length (book_text (new_book rules))) 65536 e) in
       let f : length (repaired_text stated rules) ≤ room = omega arith in
-      let k : r.answer ≡ Done = a ∙ rw (le-leb (length (repaired_text stated rules)) room f) in
-      (k, t.size k ∙ rw m, f, d)
-  by_size stated rules false e m a d = (a, d)
+      let k : answer_of r ≡ Done = a ∙ rw (le-leb (length (repaired_text stated rules)) room f) in
+      (t.size k ∙ rw m, f, d)
+  by_size stated rules false e m a d = (refusal_of r Short a (λ k. never (cc)), d)
 
-  by_mail_lem : (m : Mail) → mail_said bs ≡ m → r.answer ≡ repair_answer room m → done ≡ repair_bytes room m → Mends room m done r
+  by_mail_lem : (m : Mail) → mail_said bs ≡ m → answer_of r ≡ repair_answer room m → done ≡ repair_bytes room m → Mends room m done r
   unfolding repair_answer repair_bytes
   by_mail_lem (mail_is stated rules) m a d = by_size stated rules (leb (length (book_text (new_book rules))) 65536) refl m a d
-  by_mail_lem (bad_mail line) m a d = (a, line_few bs line m, d)
+  by_mail_lem (bad_mail line) m a d = (refusal_of r (BadText line) a (λ k. never (cc)), line_few bs line m, d)
 
   pub repair_mends : Mends room (mail_said bs) done r
-  repair_mends = let c = repair_told bs room r.answer done t.came in by_mail_lem (mail_said bs) refl c.0 c.1
+  repair_mends = let c = repair_told bs room (answer_of r) done t.came in by_mail_lem (mail_said bs) refl c.0 c.1

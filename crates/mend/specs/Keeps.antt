@@ -1,9 +1,8 @@
 -- Document 02, "E1": what repairing a book keeps and what it leaves out, as one record: the request's sentences in the comments, and below them what
 -- they became. All is said of the definitions, of every text in form and of every rule in it.
-use Rattle.std.specs.Prelude.{ℕ, zero, suc, ◌≤◌, ◌≡◌, true, false, List, [], ◌∷◌, ◌++◌, map, ◌⊎◌, length}
+use Rattle.std.specs.Prelude.{ℕ, zero, suc, ◌≤◌, ◌≡◌, true, false, List, [], ◌∷◌, ◌++◌, map, ◌⊎◌, length, Ok, Err}
 use Rattle.term.specs.declared.answer.Answer.{Answer}
 use Rattle.term.specs.Word.{pick}
-use Rattle.book.specs.declared.accept.Accepted.TheVariants.{Sound, Refused}
 use Rattle.book.specs.Accept.{accept}
 use Rattle.book.specs.Book.{sound, book_of}
 use Rattle.text.specs.TermText.{says}
@@ -43,7 +42,7 @@ pub record LeftOut (front : List (List ℕ)) (rule : List ℕ) (back : List (Lis
   -- its place is between those that stay before it and those that stay after it
   pub out : kept_from 0 (front ++ (rule ∷ back)) ≡ kept_from 0 front ++ kept_from (kept_before front) back
   -- "put back into its place, the book is refused"
-  pub put_back : (a : Answer) × (accept (book_of (kept_from 0 front ++ (rule ∷ kept_from (kept_before front) back))) ≡ Refused a)
+  pub put_back : (a : Answer) × (accept (book_of (kept_from 0 front ++ (rule ∷ kept_from (kept_before front) back))) ≡ Err a)
 
 -- ---- a sound book
 pub record ComesBack (text book : List ℕ) (rules : List (List ℕ)) : Type 0 where
@@ -55,11 +54,11 @@ pub record ComesBack (text book : List ℕ) (rules : List (List ℕ)) : Type 0 w
 
 pub record Keeps : Type 0 where
   -- "The new book is accepted, always."
-  pub accepted : (text : List ℕ) (stated : ℕ) (rules : List (List ℕ)) → mail_said text ≡ mail_is stated rules → accept (new_book rules) ≡ Sound
+  pub accepted : (text : List ℕ) (stated : ℕ) (rules : List (List ℕ)) → mail_said text ≡ mail_is stated rules → accept (new_book rules) ≡ Ok tt
   -- it has at most 64 rules
   pub at_most : (rules : List (List ℕ)) → length (kept_from 0 rules) ≤ 64
   -- "A sound book comes back byte for byte, before the `kept=` lines."
-  pub comes_back : (text book : List ℕ) → book_said text ≡ says book → accept book ≡ Sound → (rules : List (List ℕ)) × ComesBack text book rules
+  pub comes_back : (text book : List ℕ) → book_said text ≡ says book → accept book ≡ Ok tt → (rules : List (List ℕ)) × ComesBack text book rules
   -- "What stands in the book part reads back to the rules kept, in order."
   pub reads_back : (text : List ℕ) (stated : ℕ) (rules : List (List ℕ)) → mail_said text ≡ mail_is stated rules → length (book_text (new_book rules)) ≤ 65536
       → book_said (book_text (new_book rules)) ≡ says (book_of (kept_from 0 rules))

@@ -1,10 +1,9 @@
 -- Document 02, "E1": the rules of a book that came by mail which stay, the lines that say which, and what repairing gives.
-use Rattle.std.specs.Prelude.{ℕ, suc, Bool, ◌&&◌, List, [], ◌∷◌, ◌++◌, leb, ltb, eqb, length, replicate}
+use Rattle.std.specs.Prelude.{ℕ, suc, Bool, ◌&&◌, List, [], ◌∷◌, ◌++◌, leb, ltb, eqb, length, replicate, Ok}
 use Rattle.term.specs.declared.answer.Answer.{Answer}
 use Rattle.term.specs.declared.answer.Answer.TheVariants.{BadText, Short}
 use Rattle.term.specs.Answer.{Answered, answered}
 use Rattle.term.specs.Word.{pick}
-use Rattle.book.specs.declared.accept.Accepted.TheVariants.{Sound}
 use Rattle.book.specs.Book.{sound, book_of}
 use Rattle.text.specs.Bytes.{byte, bytes}
 use Rattle.text.specs.Given.{given_answer, given_left}
@@ -66,12 +65,12 @@ repaired_text stated rules = book_text (new_book rules) ++ (notes_text (notes_fr
 -- a new book whose text is over 65,536 bytes is not written, whatever the room
 unfoldable pub repair_answer : (room : ℕ) → Mail → Answer
 repair_answer room (mail_is stated rules) =
-    pick (leb (length (book_text (new_book rules))) 65536) (given_answer room (repaired_text stated rules) Sound) Short
+    pick (leb (length (book_text (new_book rules))) 65536) (given_answer room (repaired_text stated rules) (Ok tt)) Short
 repair_answer room (bad_mail at) = BadText at
 
 unfoldable pub repair_bytes : (room : ℕ) → Mail → List ℕ
 repair_bytes room (mail_is stated rules) =
-    pick (leb (length (book_text (new_book rules))) 65536) (given_left room (repaired_text stated rules) Sound) (replicate room 0)
+    pick (leb (length (book_text (new_book rules))) 65536) (given_left room (repaired_text stated rules) (Ok tt)) (replicate room 0)
 repair_bytes room (bad_mail at) = replicate room 0
 
 -- ---- all that comes back

@@ -1,10 +1,9 @@
 -- Wrong programs for document 02's E1, each wrong only as its name says: a function from inputs to all that comes back, with an input on which it does not
 -- give what the definition gives.
-use Rattle.std.specs.Prelude.{ℕ, zero, suc, ◌≡◌, Bool, true, false, ◌&&◌, List, [], ◌∷◌, ◌++◌, leb, ltb, length, replicate, get_or}
+use Rattle.std.specs.Prelude.{ℕ, zero, suc, ◌≡◌, Bool, true, false, ◌&&◌, List, [], ◌∷◌, ◌++◌, leb, ltb, length, replicate, get_or, Ok}
 use Rattle.term.specs.declared.answer.Answer.TheVariants.{BadText, Short}
 use Rattle.term.specs.Answer.{answered}
 use Rattle.term.specs.Word.{pick}
-use Rattle.book.specs.declared.accept.Accepted.TheVariants.{Sound}
 use Rattle.book.specs.Book.{sound, book_of}
 use Rattle.text.specs.Bytes.{bytes}
 use Rattle.text.specs.Given.{given_answer, given_left}
@@ -29,8 +28,8 @@ notes_of old new (false ∷ marks) = dropped old ∷ notes_of (suc old) new mark
 
 abbrev pub gives_text : (room : ℕ) (book text : List ℕ) → RepairBookOutcome
 gives_text room book text =
-    repair_book_came (answered (pick (leb (length (book_text book)) 65536) (given_answer room text Sound) Short))
-    (pick (leb (length (book_text book)) 65536) (given_left room text Sound) (replicate room 0))
+    repair_book_came (answered (pick (leb (length (book_text book)) 65536) (given_answer room text (Ok tt)) Short))
+    (pick (leb (length (book_text book)) 65536) (given_left room text (Ok tt)) (replicate room 0))
 
 abbrev pub writes : (room : ℕ) (book : List ℕ) (notes : List Note) (was : List ℕ) → RepairBookOutcome
 writes room book notes was = gives_text room book (book_text book ++ (notes_text notes ++ was))

@@ -8,9 +8,11 @@ use book::book::sound_rule;
 use book::limits::MOST_RULES_LONG;
 use term::lent::put;
 use text::mail::read_any_rule;
-use text::rule_text::Rules;
 
-// So many rules are present, so many of them stay, and the new book has so many words.
+// A book, and one rule more that is read and judged behind it.
+pub const AREA: usize = 8516;
+
+// So many rules are present, so many of them stay, and the new book has so many words. Numbers beside the lent arrays, since there is no heap.
 #[derive(Clone, Copy)]
 pub struct Kept {
     pub present: usize,
@@ -18,26 +20,22 @@ pub struct Kept {
     pub words: usize,
 }
 
-// The rules until the text ends, or the first line that is not in form.
-#[derive(Clone, Copy)]
-pub enum Mailed {
-    Rules(Kept),
-    Bad(usize),
-}
-
 // Whether a rule stays, after so many that stayed.
 fn rule_stays(rule: &[u32], before: usize) -> bool
     ensures { result ≡ stays before rule.now }
 {
-    if !sound_rule(rule) {
-        return false;
-    }
-    before < MOST_RULES_LONG
+    sound_rule(rule) && before < MOST_RULES_LONG
 }
 
-// Reads the rules from `at` on until the text ends. Those that stay go into `book`, behind a word for their number, and their old numbers into `olds`.
-pub fn keep_rules(text: &[u8], at: usize, book: &mut [u32], olds: &mut [u32]) -> Mailed
-    requires { (at ≤ length text.now) × (length text.now ≤ 65536) × (length book.old ≡ 8516) × (length olds.old ≡ 64) }
+// Reads the rules from `at` on until the text ends; the first line that is not in form, where there is one. Those that stay go into `book`,
+// behind a word for their number, and their old numbers into `olds`.
+pub fn keep_rules(
+    text: &[u8],
+    at: usize,
+    book: &mut [u32; AREA],
+    olds: &mut [u32; MOST_RULES_LONG],
+) -> Result<Kept, usize>
+    requires { (at ≤ length text.now) × (length text.now ≤ 65536) }
     ensures { MailedTold (present_read 0 (drop at text.now)) book.new olds.new result }
 {
     put(book, 0, 0);
@@ -45,24 +43,18 @@ pub fn keep_rules(text: &[u8], at: usize, book: &mut [u32], olds: &mut [u32]) ->
     let mut old: usize = 0;
     let mut new: usize = 0;
     let mut to: usize = 1;
+    // The next offset is known only when the rule is read.
     while a < text.len() {
-        match read_any_rule(text, a, old, book, to) {
-            Rules::Words(n, next) => {
-                a = next;
-                old = old + 1;
-                if !rule_stays(&book[to..to + n], new) {
-                    continue;
-                }
-                put(olds, new, (old - 1) as u32);
-                new = new + 1;
-                to = to + n;
-            }
-            Rules::Bad(line) => {
-                return Mailed::Bad(line);
-            }
+        let (n, next) = read_any_rule(text, a, old, book, to)?;
+        if rule_stays(&book[to..to + n], new) {
+            put(olds, new, old as u32);
+            new += 1;
+            to += n;
         }
+        old += 1;
+        a = next;
     }
-    Mailed::Rules(Kept {
+    Ok(Kept {
         present: old,
         rules: new,
         words: to,

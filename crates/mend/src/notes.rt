@@ -4,7 +4,7 @@ ghost use Rattle.std.proofs.lemmas.List.Edits.{sets};
 ghost use Rattle.mend.specs.Repair.{kept, note_text, notes_text, was_text};
 ghost use Rattle.mend.specs.Told.Told.{first_is, notes_by};
 
-use text::lent::put_byte;
+use term::lent::put;
 use text::line::{BLANK, END};
 use text::number::write_number;
 use text::write_book::{put_key, write_number_line};
@@ -16,9 +16,9 @@ fn write_kept(out: &mut [u8], at: usize, old: usize, new: usize) -> usize
 {
     let old_at = put_key(out, at, b"kept=");
     let blank_at = write_number(out, old_at, old as u32);
-    put_byte(out, blank_at, BLANK);
+    put(out, blank_at, BLANK);
     let end = write_number(out, blank_at + 1, new as u32);
-    put_byte(out, end, END);
+    put(out, end, END);
     end + 1
 }
 
@@ -26,10 +26,7 @@ fn write_kept(out: &mut [u8], at: usize, old: usize, new: usize) -> usize
 fn is_kept(olds: &[u32], new: usize, old: usize) -> bool
     ensures { result ≡ first_is old (drop new olds.now) }
 {
-    if olds.len() <= new {
-        return false;
-    }
-    olds[new] as usize == old
+    new < olds.len() && olds[new] as usize == old
 }
 
 // Writes a line for each rule present, of which those with the old numbers were kept; the offset after them.
@@ -39,17 +36,14 @@ pub fn write_notes(out: &mut [u8], at: usize, present: usize, olds: &[u32]) -> u
         × (out.new ≡ sets out.old at (notes_text (notes_by 0 0 present olds.now))) × (result ≤ 200000) }
 {
     let mut to = at;
-    let mut old: usize = 0;
     let mut new: usize = 0;
-    while old < present {
+    for old in 0..present {
         if is_kept(olds, new, old) {
             to = write_kept(out, to, old, new);
-            new = new + 1;
-            old = old + 1;
-            continue;
+            new += 1;
+        } else {
+            to = write_number_line(out, to, b"dropped=", old as u32);
         }
-        to = write_number_line(out, to, b"dropped=", old as u32);
-        old = old + 1;
     }
     to
 }

@@ -3,19 +3,16 @@ ghost use Rattle.std.specs.Prelude.{◌≡◌, ◌≤◌, length};
 ghost use Rattle.term.specs.Part.{padded};
 ghost use Rattle.repair.specs.Printed.{printed};
 
+use crate::BLOCK;
 use mend::repair::repair;
-use term::answer::number;
-use text::refusal::{FIRST_REFUSAL, write_refusal};
+use text::refusal::write_refusal;
 
 // Writes the repaired text, or the lines of its refusal; so many bytes are to be printed.
-pub fn repair_block(text: &[u8], out: &mut [u8]) -> usize
-    requires { length out.old ≡ 131088 }
+pub fn repair_block(text: &[u8], out: &mut [u8; BLOCK]) -> usize
     ensures { (result ≡ length (printed text.now)) × (result ≤ 131088) × (out.new ≡ padded 131088 (printed text.now)) }
 {
-    let repaired = repair(text, out);
-    let answer = repaired.answer;
-    if FIRST_REFUSAL <= number(answer) {
-        return write_refusal(answer, out);
+    match repair(text, out) {
+        Ok(length) => length,
+        Err(answer) => write_refusal(answer, out),
     }
-    repaired.length
 }

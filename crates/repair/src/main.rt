@@ -4,10 +4,8 @@
 
 mod block;
 
-ghost use Rattle.std.specs.Prelude.{◌≡◌, length};
-
 use block::repair_block;
-use streams::standard::{Came, has_arguments, print, read_all, read_failed};
+use streams::standard::{has_arguments, print, read_all, read_failed};
 
 // One byte more than a text may have, so that a longer one is seen.
 const ROOM: usize = 65537;
@@ -16,9 +14,7 @@ const ROOM: usize = 65537;
 const BLOCK: usize = 131088;
 
 // Prints what is made of the text.
-fn print_repaired(rt: &HostRuntime, text: &[u8], out: &mut [u8])
-    requires { length out.old ≡ 131088 }
-{
+fn print_repaired(rt: &HostRuntime, text: &[u8], out: &mut [u8; BLOCK]) {
     let length = repair_block(text, out);
     print(
         &mut rt.stdout(),
@@ -29,16 +25,10 @@ fn print_repaired(rt: &HostRuntime, text: &[u8], out: &mut [u8])
 }
 
 // Reads standard input to its end, and prints.
-fn print_input(rt: &HostRuntime, text: &mut [u8], out: &mut [u8])
-    requires { length out.old ≡ 131088 }
-{
+fn print_input(rt: &HostRuntime, text: &mut [u8], out: &mut [u8; BLOCK]) {
     match read_all(&mut rt.stdin(), text) {
-        Came::Bytes(n) => {
-            print_repaired(rt, &text[..n], out);
-        }
-        Came::Failed(error) => {
-            read_failed(&mut rt.stderr(), b"repair: standard input", error);
-        }
+        Ok(n) => print_repaired(rt, &text[..n], out),
+        Err(error) => read_failed(&mut rt.stderr(), b"repair: standard input", error),
     }
 }
 

@@ -6,7 +6,7 @@ use Prim.Native.Nat.{ℕ, suc, ◌≤◌, ◌<◌}
 use native.Mathlib.Omega.{arith}
 use native.Mathlib.Decide.{dec_le}
 use lib.ListN.{get_or}
-use Rattle.term.specs.declared.check.Checked.TheVariants.{Good}
+use Rattle.std.specs.Prelude.{Ok}
 use Rattle.term.specs.Row.{Row, words}
 use Rattle.term.specs.Check.{term_limits}
 use Rattle.book.specs.Book.{Rule, check_book, rule_at}
@@ -17,7 +17,7 @@ use Rattle.fit.specs.Lowest.{Fitting}
 use Rattle.fit.proofs.Laws.{front_unique, accepted_good, body_is_term, tree_of_lem, LowestFrontIs, LowestFrontFits}
 use Rattle.walk.specs.Demand.{NothingFits, LowestFit, OnlyBodies}
 
-module _ (book : List ℕ) (accepted : check_book book ≡ Good) (t : Row) (i : IsBody t) where
+module _ (book : List ℕ) (accepted : check_book book ≡ Ok tt) (t : Row) (i : IsBody t) where
   -- the words of a term are read back to it
   pub same_tree : tree_of (words t) ≡ t
   same_tree = tree_of_lem term_limits (words t) (body_is_term t i)

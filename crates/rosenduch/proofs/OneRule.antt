@@ -9,7 +9,7 @@ use native.Mathlib.Decide.{dec_le}
 use lib.Dec.{leb}
 use lib.ListN.{length, replicate}
 use borrow.Author.Tests.{le-leb, lt-leb}
-use Rattle.term.specs.declared.check.Checked.TheVariants.{Good}
+use Rattle.std.specs.Prelude.{Ok}
 use Rattle.term.specs.declared.answer.Answer.{Answer}
 use Rattle.term.specs.declared.answer.Answer.TheVariants.{Done, NoFit, Short, Over, CannotTake}
 use Rattle.term.specs.Answer.{Answered, saying, answered}
@@ -51,7 +51,7 @@ module _ (said : Answered) where
   pub none_cannot : (n : ℕ) → said ≡ answered NoFit → said ≡ answered (CannotTake n) → ⊥
   none_cannot n = differ 1 18 0 n (λ e. omega (arith, e))
 
-module _ (book : List ℕ) (number : ℕ) (rule : Rule) (term : List ℕ) (accepted : check_book book ≡ Good) (found : rule_at book number ≡ some rule) (i : IsTerm term) where
+module _ (book : List ℕ) (number : ℕ) (rule : Rule) (term : List ℕ) (accepted : check_book book ≡ Ok tt) (found : rule_at book number ≡ some rule) (i : IsTerm term) where
   body : IsBody i.tree
   body = term_is_body term i
 
@@ -201,7 +201,7 @@ module _ (room : ℕ) (t : Row) (said : Answered) (out : List ℕ) (p : said ≡
       go true w (yes h) = none_done said z (leaves_row w h).0
       go true w (no h) = none_short said z (short_row w (omega arith))
 
-pub builds_left : (book : List ℕ) (number : ℕ) (rule : Rule) → check_book book ≡ Good → rule_at book number ≡ some rule
+pub builds_left : (book : List ℕ) (number : ℕ) (rule : Rule) → check_book book ≡ Ok tt → rule_at book number ≡ some rule
     → (b : ℕ → Row) → ((x : ℕ) → x < rule.vars → IsBody (b x))
     → (room : ℕ) (o : BuildLeftOutcome) → o ≡ build_left_gives book number (body_list b 0 rule.vars) (length_list b 0 rule.vars ++ replicate (16 - rule.vars) 0) room
     → Written room (build b 0 (left_in rule)) o.said o.out
@@ -235,7 +235,7 @@ built_then book number bodies lengths l room o p d =
     )
 
 -- document 001's rules, of the term without the arguments set aside
-pub as_dedukti_front : (book : List ℕ) → check_book book ≡ Good → (number : ℕ) (rule : Rule) → rule_at book number ≡ some rule → (term : List ℕ) → IsTerm term
+pub as_dedukti_front : (book : List ℕ) → check_book book ≡ Ok tt → (number : ℕ) (rule : Rule) → rule_at book number ≡ some rule → (term : List ℕ) → IsTerm term
     → AsDedukti rule.vars (left_in rule) (words (front (root_arguments (left_in rule)) (tree_of term)))
 as_dedukti_front book g number rule f term i =
     let t = front (root_arguments (left_in rule)) i.tree in

@@ -6,8 +6,7 @@ use lib.ListN.{length}
 use mathlib.Core.Option.{Option, none, some}
 use Prim.Native.Nat.{ℕ, zero, suc, ◌≤◌, ◌<◌}
 use native.Mathlib.Omega.{arith}
-use Rattle.term.specs.declared.check.Checked.{Checked}
-use Rattle.term.specs.declared.check.Checked.TheVariants.{Good, Bad}
+use Rattle.std.specs.Prelude.{Result, Ok, Err}
 use Rattle.term.specs.declared.answer.Answer.{Answer}
 use Rattle.term.specs.declared.answer.Answer.TheVariants.{BadTerm, BadBook, Damaged, NoRule}
 use Rattle.term.specs.Answer.{Answered, saying, answered}
@@ -15,7 +14,6 @@ use Rattle.term.specs.Checked.{checked_term, check_term_gives}
 use Rattle.term.specs.Row.{Row}
 use Rattle.term.specs.Check.{IsTerm, check, term_limits}
 use Rattle.term.proofs.Laws.{good_tree, check_term_is}
-use Rattle.book.specs.declared.accept.Accepted.{Accepted}
 use Rattle.book.specs.Accept.{accept_answer, check_book_gives}
 use Rattle.book.specs.Book.{Rule, check_book, rule_at}
 use Rattle.book.proofs.Laws.{bad_refused, check_book_is}
@@ -55,31 +53,31 @@ stopped_says : (room : ℕ) (trace : List Search) (last : ℕ) (run : Run) (said
 stopped_says room trace last run said a p e = p ∙ ap answered (ap (simplify_answer room) e ∙ (stopped_run room trace last a).0)
 
 -- ---- below 10, each judgement was passed
-all_good : (c : Checked) → ((at : ℕ) → c ≡ Bad at → ⊥) → c ≡ Good
-all_good Good f = refl
-all_good (Bad at) f = absurd (f at refl)
+all_good : (c : Result (Unit {0}) ℕ) → ((at : ℕ) → c ≡ Err at → ⊥) → c ≡ Ok tt
+all_good (Ok _) f = refl
+all_good (Err at) f = absurd (f at refl)
 
 is_true : (b : Bool) → (b ≡ false → ⊥) → b ≡ true
 is_true true f = refl
 is_true false f = absurd (f refl)
 
-is_term : (ws : List ℕ) → check term_limits ws ≡ Good → IsTerm ws
+is_term : (ws : List ℕ) → check term_limits ws ≡ Ok tt → IsTerm ws
 is_term ws e = good_tree term_limits (omega arith) ws e
 
 module _ (said : Answered) (low : said.number < 10) where
   not_refused : (number at : ℕ) → 10 ≤ number → said ≡ saying number at → ⊥
   not_refused number at h s = omega (arith, low, h, ap (λ (a : Answered). a.number) s)
 
-  book_good : (book : List ℕ) → BookJudged book said → check_book book ≡ Good
+  book_good : (book : List ℕ) → BookJudged book said → check_book book ≡ Ok tt
   book_good book j = all_good (check_book book) (λ at e. not_refused 12 at (omega arith) (j at e))
 
-  term_good : (ws : List ℕ) → TermJudged ws said → check term_limits ws ≡ Good
+  term_good : (ws : List ℕ) → TermJudged ws said → check term_limits ws ≡ Ok tt
   term_good ws j = all_good (check term_limits ws) (λ at e. not_refused 11 at (omega arith) (j at e))
 
   term_is : (ws : List ℕ) → TermJudged ws said → IsTerm ws
   term_is ws j = is_term ws (term_good ws j)
 
-  rule_there : (book : List ℕ) (number : ℕ) → check_book book ≡ Good → RuleJudged book number said → (rule : Rule) × (rule_at book number ≡ some rule)
+  rule_there : (book : List ℕ) (number : ℕ) → check_book book ≡ Ok tt → RuleJudged book number said → (rule : Rule) × (rule_at book number ≡ some rule)
   rule_there book number g j = go (rule_at book number) refl
     where
       go : (o : Option Rule) → rule_at book number ≡ o → (rule : Rule) × (rule_at book number ≡ some rule)
@@ -91,13 +89,13 @@ check_term : (words : List ℕ) (said : Answered) → said ≡ check_term_gives 
 check_term words said p = (judged, λ low. term_is said low words judged)
   where
     judged : TermJudged words said
-    judged at e = p ∙ check_term_is words ∙ ap (λ (c : Checked). answered (checked_term c)) e
+    judged at e = p ∙ check_term_is words ∙ ap (λ (c : Result (Unit {0}) ℕ). answered (checked_term c)) e
 
-check_book_lem : (book : List ℕ) (said : Answered) → said ≡ check_book_gives book → BookJudged book said × (said.number < 10 → check_book book ≡ Good)
+check_book_lem : (book : List ℕ) (said : Answered) → said ≡ check_book_gives book → BookJudged book said × (said.number < 10 → check_book book ≡ Ok tt)
 check_book_lem book said p = (judged, λ low. book_good said low book judged)
   where
     judged : BookJudged book said
-    judged at e = p ∙ check_book_is book ∙ ap (λ (a : Accepted). answered (accept_answer a)) (bad_refused book at e)
+    judged at e = p ∙ check_book_is book ∙ ap (λ (a : Result (Unit {0}) Answer). answered (accept_answer a)) (bad_refused book at e)
 
 -- ---- matching one rule
 module _ (book : List ℕ) (number : ℕ) (term : List ℕ) (room : ℕ) (said : Answered) (p : said ≡ answered (match_answer room (match_rule book number term))) where
@@ -107,10 +105,10 @@ module _ (book : List ℕ) (number : ℕ) (term : List ℕ) (room : ℕ) (said :
   match_rule_lem : RuleJudged book number said
   match_rule_lem g e = refused_says room (match_rule book number term) said (NoRule number) p (match_no_rule book number term g e)
 
-  match_term : (rule : Rule) → check_book book ≡ Good → rule_at book number ≡ some rule → TermJudged term said
+  match_term : (rule : Rule) → check_book book ≡ Ok tt → rule_at book number ≡ some rule → TermJudged term said
   match_term rule g f at e = refused_says room (match_rule book number term) said (BadTerm at) p (match_bad_term book number term g rule f at e)
 
-  match_passes : said.number < 10 → (check_book book ≡ Good) × IsTerm term
+  match_passes : said.number < 10 → (check_book book ≡ Ok tt) × IsTerm term
   match_passes low =
       let g = book_good said low book match_book in
       let f = rule_there said low book number g match_rule_lem in
@@ -124,14 +122,14 @@ module _ (book : List ℕ) (number : ℕ) (bodies lengths : List ℕ) (room : �
   build_rule : RuleJudged book number said
   build_rule g e = unbuilt_says room (build_left book number bodies lengths) said (NoRule number) p (build_no_rule book number bodies lengths g e)
 
-  module _ (rule : Rule) (g : check_book book ≡ Good) (f : rule_at book number ≡ some rule) where
+  module _ (rule : Rule) (g : check_book book ≡ Ok tt) (f : rule_at book number ≡ some rule) where
     build_lengths : good_lengths rule.vars bodies lengths ≡ false → said ≡ saying 11 16
     build_lengths e = unbuilt_says room (build_left book number bodies lengths) said (BadTerm 16) p (build_bad_lengths book number bodies lengths g rule f e)
 
-    build_bodies : good_lengths rule.vars bodies lengths ≡ true → (x : ℕ) → check_bodies bodies lengths 0 rule.vars ≡ Bad x → said ≡ saying 11 x
+    build_bodies : good_lengths rule.vars bodies lengths ≡ true → (x : ℕ) → check_bodies bodies lengths 0 rule.vars ≡ Err x → said ≡ saying 11 x
     build_bodies l x e = unbuilt_says room (build_left book number bodies lengths) said (BadTerm x) p (build_bad_body book number bodies lengths g rule f l x e)
 
-  build_passes : said.number < 10 → (check_book book ≡ Good) × ((rule : Rule) → rule_at book number ≡ some rule → (good_lengths rule.vars bodies lengths ≡ true) × (check_bodies bodies lengths 0 rule.vars ≡ Good))
+  build_passes : said.number < 10 → (check_book book ≡ Ok tt) × ((rule : Rule) → rule_at book number ≡ some rule → (good_lengths rule.vars bodies lengths ≡ true) × (check_bodies bodies lengths 0 rule.vars ≡ Ok tt))
   build_passes low =
       let g = book_good said low book build_book in (
         g,
@@ -149,7 +147,7 @@ module _ (tree term : List ℕ) (room : ℕ) (said : Answered) (p : said ≡ ans
   tree_term : TermJudged term said
   tree_term at e = refused_says room (match_tree tree term) said (BadTerm at) p (tree_bad_term tree term at e)
 
-  tree_damaged : (at : ℕ) → check term_limits term ≡ Good → walk no_book tree (tree_of term) ≡ DamagedAt at → said ≡ saying 14 at
+  tree_damaged : (at : ℕ) → check term_limits term ≡ Ok tt → walk no_book tree (tree_of term) ≡ DamagedAt at → said ≡ saying 14 at
   tree_damaged at g e = refused_says room (match_tree tree term) said (Damaged at) p (tree_walked tree term g ∙ ap walked_match e)
 
 -- ---- rewriting at the root
@@ -157,13 +155,13 @@ module _ (book tree term : List ℕ) (room : ℕ) (said : Answered) (p : said �
   root_book : BookJudged book said
   root_book at e = unbuilt_says room (rewrite_root book tree term) said (BadBook at) p (rewrite_bad_book book tree term at e)
 
-  root_term : check_book book ≡ Good → TermJudged term said
+  root_term : check_book book ≡ Ok tt → TermJudged term said
   root_term g at e = unbuilt_says room (rewrite_root book tree term) said (BadTerm at) p (rewrite_bad_term book tree term g at e)
 
-  root_damaged : (at : ℕ) → check_book book ≡ Good → check term_limits term ≡ Good → walk (book_fits book) tree (tree_of term) ≡ DamagedAt at → said ≡ saying 14 at
+  root_damaged : (at : ℕ) → check_book book ≡ Ok tt → check term_limits term ≡ Ok tt → walk (book_fits book) tree (tree_of term) ≡ DamagedAt at → said ≡ saying 14 at
   root_damaged at g h e = unbuilt_says room (rewrite_root book tree term) said (Damaged at) p (rewrite_walked book tree term g h ∙ ap (walked_root book (tree_of term)) e)
 
-  root_passes : said.number < 10 → (check_book book ≡ Good) × IsTerm term
+  root_passes : said.number < 10 → (check_book book ≡ Ok tt) × IsTerm term
   root_passes low = let g = book_good said low book root_book in (g, term_is said low term (root_term g))
 
 -- ---- simplifying
@@ -186,13 +184,13 @@ module _ (book tree : List ℕ) where
     run_book : BookJudged book said
     run_book at e = stopped_says room [] 0 (simplify book tree budget term) said (BadBook at) p (simplify_bad_book book tree term budget at e)
 
-    run_term : check_book book ≡ Good → TermJudged term said
+    run_term : check_book book ≡ Ok tt → TermJudged term said
     run_term g at e = stopped_says room [] 0 (simplify book tree budget term) said (BadTerm at) p (simplify_bad_term book tree term budget g at e)
 
-    run_passes : said.number < 10 → (check_book book ≡ Good) × IsTerm term
+    run_passes : said.number < 10 → (check_book book ≡ Ok tt) × IsTerm term
     run_passes low = let g = book_good said low book run_book in (g, term_is said low term (run_term g))
 
-    run_damaged : (n at : ℕ) (v : Row) → check_book book ≡ Good → check term_limits term ≡ Good
+    run_damaged : (n at : ℕ) (v : Row) → check_book book ≡ Ok tt → check term_limits term ≡ Ok tt
         → Leads (NextBy book tree) n (tree_of term) v → n ≤ budget → BreaksBy book tree v at
         → (steps : ℕ) → steps ≡ simplify_steps (simplify book tree budget term) → (steps ≡ n) × (said ≡ saying 14 at)
     run_damaged n at v g h l few e steps s =
@@ -211,10 +209,10 @@ module _ (text : List ℕ) (room : ℕ) (said : Answered) where
     book_said_lem : (book : List ℕ) → book_said text ≡ says book → BookJudged book said
     book_said_lem book e at b = p ∙ ap answered (ap (read_book_answer room) e ∙ (read_bad_book room book at b).0)
 
-    book_passes : said.number < 10 → (book : List ℕ) × (book_said text ≡ says book) × (check_book book ≡ Good)
+    book_passes : said.number < 10 → (book : List ℕ) × (book_said text ≡ says book) × (check_book book ≡ Ok tt)
     book_passes low = go (book_said text) refl
       where
-        go : (s : Said) → book_said text ≡ s → (book : List ℕ) × (book_said text ≡ says book) × (check_book book ≡ Good)
+        go : (s : Said) → book_said text ≡ s → (book : List ℕ) × (book_said text ≡ says book) × (check_book book ≡ Ok tt)
         go (says book) e = (book, e, book_good said low book (book_said_lem book e))
         go (bad_line at) e = absurd (not_refused said low 10 at (omega arith) (book_line_lem at e))
 

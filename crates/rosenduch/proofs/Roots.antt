@@ -4,7 +4,7 @@ use mathlib.Core.List.{List}
 use mathlib.Core.Option.{Option, none, some}
 use Prim.Native.Nat.{ℕ}
 use lib.ListN.{get_or}
-use Rattle.term.specs.declared.check.Checked.TheVariants.{Good}
+use Rattle.std.specs.Prelude.{Ok}
 use Rattle.term.specs.declared.answer.Answer.TheVariants.{NoFit, CannotTake}
 use Rattle.term.specs.Answer.{Answered, answered}
 use Rattle.term.specs.Row.{Row, words}
@@ -71,7 +71,7 @@ module _ (ops : Operations) (kept : Promised ops) (book tree term : List ℕ) (k
   same_tree : tree_of term ≡ i.tree
   same_tree = tree_of_lem term_limits term i
 
-  abbrev accepted : check_book book ≡ Good
+  abbrev accepted : check_book book ≡ Ok tt
   accepted = accepted_book ops kept book tree k
 
   abbrev best : Option Fitting
@@ -134,7 +134,7 @@ module _ (ops : Operations) (kept : Promised ops) (book tree term : List ℕ) (k
             when_some f e s.0 (of_words f.number s.0 f.bodies s.1)
 
 -- ---- by any tree
-module _ (book tree term : List ℕ) (good : check_book book ≡ Good) (i : IsTerm term) (room : ℕ) (o : RewriteRootOutcome) (p : o ≡ rewrite_root_gives book tree term room) where
+module _ (book tree term : List ℕ) (good : check_book book ≡ Ok tt) (i : IsTerm term) (room : ℕ) (o : RewriteRootOutcome) (p : o ≡ rewrite_root_gives book tree term room) where
   walked : (w : Walked) → walk (book_fits book) tree (tree_of term) ≡ w → rewrite_root book tree term ≡ walked_root book (tree_of term) w
   walked w e = rewrite_walked book tree term good (tree_good term_limits term i) ∙ ap (walked_root book (tree_of term)) e
 

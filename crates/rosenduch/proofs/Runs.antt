@@ -11,7 +11,7 @@ use native.Mathlib.Decide.{dec_le}
 use lib.Dec.{leb}
 use lib.ListN.{length}
 use borrow.Author.Tests.{le-leb, lt-leb}
-use Rattle.term.specs.declared.check.Checked.TheVariants.{Good}
+use Rattle.std.specs.Prelude.{Ok}
 use Rattle.term.specs.declared.answer.Answer.{Answer}
 use Rattle.term.specs.declared.answer.Answer.TheVariants.{Short}
 use Rattle.term.specs.Answer.{Answered, answered}
@@ -117,7 +117,7 @@ module _ (book tree : List ℕ) where
           gives = gives_stop n a i.0 e (p ∙ ap answered k.0) i.3;
         }
 
-  pub runs_by_tree : (term : List ℕ) → check_book book ≡ Good → IsTerm term → (budget room : ℕ) (o : SimplifyOutcome) → o ≡ simplify_gives book tree term budget room
+  pub runs_by_tree : (term : List ℕ) → check_book book ≡ Ok tt → IsTerm term → (budget room : ℕ) (o : SimplifyOutcome) → o ≡ simplify_gives book tree term budget room
       → Runs (RestsBy book tree) (NextBy book tree) (CannotBy book tree) (BreaksBy book tree) budget room (tree_of term) o
   runs_by_tree term g i budget room o p =
       let q = p ∙ run_given book tree term budget room in
@@ -129,7 +129,7 @@ module _ (book tree : List ℕ) where
 
 -- ---- by the compiled tree
 module _ (ops : Operations) (kept : Promised ops) (book tree : List ℕ) (k : CompiledTree ops book tree) where
-  abbrev accepted : check_book book ≡ Good
+  abbrev accepted : check_book book ≡ Ok tt
   accepted = accepted_book ops kept book tree k
 
   first : (t : Row) → IsBody t → FirstFit book t (lowest_offset book tree t)

@@ -5,7 +5,7 @@ use Prim.Native.Nat.{ℕ, zero, suc, ◌+◌, ◌-◌, ◌≤◌}
 use native.Mathlib.Omega.{arith}
 use lib.ListN.{length, take, replicate}
 use lib.Seq.{take-append-add}
-use Rattle.term.specs.declared.check.Checked.TheVariants.{Good}
+use Rattle.std.specs.Prelude.{Ok}
 use Rattle.term.specs.declared.answer.Answer.TheVariants.{Done}
 use Rattle.term.specs.Answer.{answered}
 use Rattle.term.specs.Check.{IsTerm, term_limits}
@@ -53,7 +53,7 @@ module _ (ops : Operations) (kept : Promised ops) (book tree : List ℕ) (k : Co
   made : TreeMade k.room book
   made = done_made k.room book (answered_same _ Done (sym (ap (λ (q : CompileOutcome). q.said) given) ∙ k.done))
 
-  pub accepted_book : check_book book ≡ Good
+  pub accepted_book : check_book book ≡ Ok tt
   accepted_book = made.accepted
 
   -- the words handed on, as room
@@ -84,7 +84,7 @@ module _ (ops : Operations) (kept : Promised ops) (book tree : List ℕ) (k : Co
   pub finds_by_tree : (term : List ℕ) → IsTerm term → (room : ℕ) (o : MatchTreeOutcome) → o ≡ match_tree_gives tree term room → TreeFinds book term room o
   finds_by_tree term i room o p = tree_finds book accepted_book tree tree_lies tree_short term (tree_good term_limits term i) room o p
 
-pub compiles_tree : (ops : Operations) → Promised ops → (book : List ℕ) → check_book book ≡ Good → length (tree_words book) ≤ 16384
+pub compiles_tree : (ops : Operations) → Promised ops → (book : List ℕ) → check_book book ≡ Ok tt → length (tree_words book) ≤ 16384
     → (room : ℕ) → length (tree_words book) ≤ room → (o : CompileOutcome) → ops.compile book room o → (o.said ≡ answered Done) × CompiledTree ops book (take o.words o.out)
 compiles_tree ops kept book g s room h o p =
     let q = kept.compile book room o p ∙ compile_given book room in

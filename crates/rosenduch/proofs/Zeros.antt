@@ -7,8 +7,7 @@ use native.Mathlib.Omega.{arith}
 use lib.Dec.{leb}
 use lib.ListN.{length, replicate}
 use borrow.Author.Tests.{leb-false}
-use Rattle.term.specs.declared.check.Checked.{Checked}
-use Rattle.term.specs.declared.check.Checked.TheVariants.{Good, Bad}
+use Rattle.std.specs.Prelude.{Result, Ok, Err}
 use Rattle.term.specs.declared.answer.Answer.{Answer}
 use Rattle.term.specs.declared.answer.Answer.TheVariants.{Done, BadTerm, BadBook, Short}
 use Rattle.term.specs.Answer.{Answered, number_of, answered}
@@ -78,16 +77,16 @@ module _ (room : ℕ) where
   simplify_zeros : (book tree term : List ℕ) (budget : ℕ) → 10 ≤ number_of (simplify_answer room (simplify book tree budget term)) → simplify_words room (simplify book tree budget term) ≡ replicate room 0
   simplify_zeros book tree term budget h = with_book_lem (check_book book) refl
     where
-      with_term_lem : check_book book ≡ Good → (c : Checked) → check term_limits term ≡ c → simplify_words room (simplify book tree budget term) ≡ replicate room 0
-      with_term_lem g (Bad at) e = stopped_zeros (simplify book tree budget term) (BadTerm at) (simplify_bad_term book tree term budget g at e)
-      with_term_lem g Good e =
+      with_term_lem : check_book book ≡ Ok tt → (c : Result (Unit {0}) ℕ) → check term_limits term ≡ c → simplify_words room (simplify book tree budget term) ≡ replicate room 0
+      with_term_lem g (Err at) e = stopped_zeros (simplify book tree budget term) (BadTerm at) (simplify_bad_term book tree term budget g at e)
+      with_term_lem g (Ok _) e =
           let q = simplify_runs book tree term budget g e in
           ap (simplify_words room) q
           ∙ run_zeros book tree budget (tree_of term) (simplify_by book tree budget (tree_of term)) (run_is book tree budget (tree_of term)) (moved _ _ (ap (simplify_answer room) q) h)
 
-      with_book_lem : (c : Checked) → check_book book ≡ c → simplify_words room (simplify book tree budget term) ≡ replicate room 0
-      with_book_lem (Bad at) e = stopped_zeros (simplify book tree budget term) (BadBook at) (simplify_bad_book book tree term budget at e)
-      with_book_lem Good e = with_term_lem e (check term_limits term) refl
+      with_book_lem : (c : Result (Unit {0}) ℕ) → check_book book ≡ c → simplify_words room (simplify book tree budget term) ≡ replicate room 0
+      with_book_lem (Err at) e = stopped_zeros (simplify book tree budget term) (BadBook at) (simplify_bad_book book tree term budget at e)
+      with_book_lem (Ok _) e = with_term_lem e (check term_limits term) refl
 
 -- what is refused is not done
 not_done : (r : Answer) → 10 ≤ number_of r → r ≡ Done → ⊥

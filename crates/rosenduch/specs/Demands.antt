@@ -1,8 +1,7 @@
 -- The three demands, each as one record: the demand's words in the comments, and below them what they became. All is said of words in memory, and
 -- of whatever the thirteen operations may hand back (Operations.antt). The first clause of demand 1 is about the code alone: crate `demands` says it.
-use Rattle.std.specs.Prelude.{ℕ, ◌-◌, ◌≤◌, ◌<◌, ◌≡◌, true, false, List, ◌++◌, length, take, replicate}
+use Rattle.std.specs.Prelude.{ℕ, ◌-◌, ◌≤◌, ◌<◌, ◌≡◌, true, false, List, ◌++◌, length, take, replicate, Ok, Err}
 use Rattle.std.proofs.Math.Option.{Option, none, some}
-use Rattle.term.specs.declared.check.Checked.TheVariants.{Good, Bad}
 use Rattle.term.specs.declared.answer.Answer.TheVariants.{Done, NoFit, Short, Over, CannotTake}
 use Rattle.term.specs.Answer.{Answered, saying, answered}
 use Rattle.term.specs.Row.{Row, words}
@@ -37,58 +36,58 @@ use Rattle.rosenduch.specs.Steps.{Leaves, Leads, Runs, RestsBy, NextBy, CannotBy
 
 -- a bad book is 12 at its first bad rule
 abbrev pub BookJudged : List ℕ → Answered → Type 0
-BookJudged book said = (at : ℕ) → book_check book ≡ Bad at → said ≡ saying 12 at
+BookJudged book said = (at : ℕ) → book_check book ≡ Err at → said ≡ saying 12 at
 
 -- a rule that an accepted book has not is 16 at its number
 abbrev pub RuleJudged : List ℕ → ℕ → Answered → Type 0
-RuleJudged book number said = book_check book ≡ Good → rule_at book number ≡ none → said ≡ saying 16 number
+RuleJudged book number said = book_check book ≡ Ok tt → rule_at book number ≡ none → said ≡ saying 16 number
 
 -- a bad term is 11 at its bad place
 abbrev pub TermJudged : List ℕ → Answered → Type 0
-TermJudged term said = (at : ℕ) → check term_limits term ≡ Bad at → said ≡ saying 11 at
+TermJudged term said = (at : ℕ) → check term_limits term ≡ Err at → said ≡ saying 11 at
 
 -- For each operation: what is bad is refused, in document 01's order 10, 12, 16, 11, 14; and a number below 10 is said only of what is good.
 -- A text that is not in form is 10 at its bad line. A tree is damaged where a walk over it meets a damaged node: 14 at that node's address.
 pub record RefusesBad (ops : Operations) : Type 0 where
   pub check_term : (words : List ℕ) (said : Answered) → ops.check_term words said → TermJudged words said × (said.number < 10 → IsTerm words)
-  pub check_book : (book : List ℕ) (said : Answered) → ops.check_book book said → BookJudged book said × (said.number < 10 → book_check book ≡ Good)
+  pub check_book : (book : List ℕ) (said : Answered) → ops.check_book book said → BookJudged book said × (said.number < 10 → book_check book ≡ Ok tt)
   pub match_rule : (book : List ℕ) (number : ℕ) (term : List ℕ) (room : ℕ) (o : MatchRuleOutcome) → ops.match_rule book number term room o
       → BookJudged book o.said
       × RuleJudged book number o.said
-      × ((rule : Rule) → book_check book ≡ Good → rule_at book number ≡ some rule → TermJudged term o.said)
-      × (o.said.number < 10 → (book_check book ≡ Good) × IsTerm term)
+      × ((rule : Rule) → book_check book ≡ Ok tt → rule_at book number ≡ some rule → TermJudged term o.said)
+      × (o.said.number < 10 → (book_check book ≡ Ok tt) × IsTerm term)
   pub build_left : (book : List ℕ) (number : ℕ) (bodies lengths : List ℕ) (room : ℕ) (o : BuildLeftOutcome) → ops.build_left book number bodies lengths room o
       → BookJudged book o.said
       × RuleJudged book number o.said
-      × ((rule : Rule) → book_check book ≡ Good → rule_at book number ≡ some rule → good_lengths rule.vars bodies lengths ≡ false → o.said ≡ saying 11 16)
-      × ((rule : Rule) → book_check book ≡ Good → rule_at book number ≡ some rule → good_lengths rule.vars bodies lengths ≡ true
-      → (x : ℕ) → check_bodies bodies lengths 0 rule.vars ≡ Bad x → o.said ≡ saying 11 x)
-      × (o.said.number < 10 → (book_check book ≡ Good) × ((rule : Rule) → rule_at book number ≡ some rule → (good_lengths rule.vars bodies lengths ≡ true) × (check_bodies bodies lengths 0 rule.vars ≡ Good)))
+      × ((rule : Rule) → book_check book ≡ Ok tt → rule_at book number ≡ some rule → good_lengths rule.vars bodies lengths ≡ false → o.said ≡ saying 11 16)
+      × ((rule : Rule) → book_check book ≡ Ok tt → rule_at book number ≡ some rule → good_lengths rule.vars bodies lengths ≡ true
+      → (x : ℕ) → check_bodies bodies lengths 0 rule.vars ≡ Err x → o.said ≡ saying 11 x)
+      × (o.said.number < 10 → (book_check book ≡ Ok tt) × ((rule : Rule) → rule_at book number ≡ some rule → (good_lengths rule.vars bodies lengths ≡ true) × (check_bodies bodies lengths 0 rule.vars ≡ Ok tt)))
   pub compile : (book : List ℕ) (room : ℕ) (o : CompileOutcome) → ops.compile book room o
       → BookJudged book o.said
-      × (o.said.number < 10 → book_check book ≡ Good)
+      × (o.said.number < 10 → book_check book ≡ Ok tt)
   pub match_tree : (tree term : List ℕ) (room : ℕ) (o : MatchTreeOutcome) → ops.match_tree tree term room o
       → TermJudged term o.said
-      × ((at : ℕ) → check term_limits term ≡ Good → walk no_book tree (tree_of term) ≡ DamagedAt at → o.said ≡ saying 14 at)
+      × ((at : ℕ) → check term_limits term ≡ Ok tt → walk no_book tree (tree_of term) ≡ DamagedAt at → o.said ≡ saying 14 at)
       × (o.said.number < 10 → IsTerm term)
   pub rewrite_root : (book tree term : List ℕ) (room : ℕ) (o : RewriteRootOutcome) → ops.rewrite_root book tree term room o
       → BookJudged book o.said
-      × (book_check book ≡ Good → TermJudged term o.said)
-      × ((at : ℕ) → book_check book ≡ Good → check term_limits term ≡ Good → walk (book_fits book) tree (tree_of term) ≡ DamagedAt at → o.said ≡ saying 14 at)
-      × (o.said.number < 10 → (book_check book ≡ Good) × IsTerm term)
+      × (book_check book ≡ Ok tt → TermJudged term o.said)
+      × ((at : ℕ) → book_check book ≡ Ok tt → check term_limits term ≡ Ok tt → walk (book_fits book) tree (tree_of term) ≡ DamagedAt at → o.said ≡ saying 14 at)
+      × (o.said.number < 10 → (book_check book ≡ Ok tt) × IsTerm term)
   pub simplify : (book tree term : List ℕ) (budget room : ℕ) (o : SimplifyOutcome) → ops.simplify book tree term budget room o
       → BookJudged book o.said
-      × (book_check book ≡ Good → TermJudged term o.said)
-      × ((n at : ℕ) (v : Row) → book_check book ≡ Good → check term_limits term ≡ Good
+      × (book_check book ≡ Ok tt → TermJudged term o.said)
+      × ((n at : ℕ) (v : Row) → book_check book ≡ Ok tt → check term_limits term ≡ Ok tt
       → Leads (NextBy book tree) n (tree_of term) v → n ≤ budget → BreaksBy book tree v at → (o.steps ≡ n) × (o.said ≡ saying 14 at))
-      × (o.said.number < 10 → (book_check book ≡ Good) × IsTerm term)
+      × (o.said.number < 10 → (book_check book ≡ Ok tt) × IsTerm term)
   pub read_book : (text : List ℕ) (room : ℕ) (o : ReadBookOutcome) → ops.read_book text room o
       → ((at : ℕ) → book_said text ≡ bad_line at → o.said ≡ saying 10 at)
       × ((book : List ℕ) → book_said text ≡ says book → BookJudged book o.said)
-      × (o.said.number < 10 → (book : List ℕ) × (book_said text ≡ says book) × (book_check book ≡ Good))
+      × (o.said.number < 10 → (book : List ℕ) × (book_said text ≡ says book) × (book_check book ≡ Ok tt))
   pub write_book : (book : List ℕ) (room : ℕ) (o : WriteBookOutcome) → ops.write_book book room o
       → BookJudged book o.said
-      × (o.said.number < 10 → book_check book ≡ Good)
+      × (o.said.number < 10 → book_check book ≡ Ok tt)
   pub repair_book : (text : List ℕ) (room : ℕ) (o : RepairBookOutcome) → ops.repair_book text room o
       → ((at : ℕ) → mail_said text ≡ bad_mail at → o.said ≡ saying 10 at)
       × (o.said.number < 10 → (stated : ℕ) × (rules : List (List ℕ)) × (mail_said text ≡ mail_is stated rules))
@@ -189,27 +188,27 @@ pub record RewritesBy (book tree term : List ℕ) (room : ℕ) (o : RewriteRootO
 pub record Demand2 (ops : Operations) : Type 0 where
   -- "A rule fits a term exactly as the Dedukti matching rules say in the reading that document 01 fixes;": the four rules hold of the term without the
   -- arguments set aside exactly where some bodies turn the left side into it, with these bodies; and matching finds them
-  pub dedukti : (book : List ℕ) (number : ℕ) (rule : Rule) (term : List ℕ) → book_check book ≡ Good → rule_at book number ≡ some rule → IsTerm term
+  pub dedukti : (book : List ℕ) (number : ℕ) (rule : Rule) (term : List ℕ) → book_check book ≡ Ok tt → rule_at book number ≡ some rule → IsTerm term
       → AsDedukti rule.vars (left_in rule) (words (front (root_arguments (left_in rule)) (tree_of term)))
-  pub matches : (book : List ℕ) (number : ℕ) (rule : Rule) (term : List ℕ) → book_check book ≡ Good → rule_at book number ≡ some rule → IsTerm term
+  pub matches : (book : List ℕ) (number : ℕ) (rule : Rule) (term : List ℕ) → book_check book ≡ Ok tt → rule_at book number ≡ some rule → IsTerm term
       → (room : ℕ) (o : MatchRuleOutcome) → ops.match_rule book number term room o
       → MatchesRule rule term room o
   -- "right sides are written": with the compiled tree, and with any tree
   pub rewrites : (book tree term : List ℕ) → CompiledTree ops book tree → IsTerm term
       → (room : ℕ) (o : RewriteRootOutcome) → ops.rewrite_root book tree term room o
       → RewritesRoot book term room o
-  pub rewrites_by : (book tree term : List ℕ) → book_check book ≡ Good → IsTerm term
+  pub rewrites_by : (book tree term : List ℕ) → book_check book ≡ Ok tt → IsTerm term
       → (room : ℕ) (o : RewriteRootOutcome) → ops.rewrite_root book tree term room o
       → RewritesBy book tree term room o
   -- "and simplifying steps taken and counted as that page defines them.": with the compiled tree, and with any tree
   pub simplifies : (book tree term : List ℕ) → CompiledTree ops book tree → IsTerm term
       → (budget room : ℕ) (o : SimplifyOutcome) → ops.simplify book tree term budget room o
       → Runs (RestsFit book) (NextFit book) (CannotFit book) BreaksNever budget room (tree_of term) o
-  pub simplifies_by : (book tree term : List ℕ) → book_check book ≡ Good → IsTerm term
+  pub simplifies_by : (book tree term : List ℕ) → book_check book ≡ Ok tt → IsTerm term
       → (budget room : ℕ) (o : SimplifyOutcome) → ops.simplify book tree term budget room o
       → Runs (RestsBy book tree) (NextBy book tree) (CannotBy book tree) (BreaksBy book tree) budget room (tree_of term) o
   -- "Building a left side from given bodies, when the result is within the limits and there is room,"
-  pub builds : (book : List ℕ) (number : ℕ) (rule : Rule) → book_check book ≡ Good → rule_at book number ≡ some rule
+  pub builds : (book : List ℕ) (number : ℕ) (rule : Rule) → book_check book ≡ Ok tt → rule_at book number ≡ some rule
       → (b : ℕ → Row) → ((x : ℕ) → x < rule.vars → IsBody (b x))
       → (room : ℕ) (o : BuildLeftOutcome) → ops.build_left book number (body_list b 0 rule.vars) (length_list b 0 rule.vars ++ replicate (16 - rule.vars) 0) room o
       → Written room (build b 0 (left_in rule)) o.said o.out
@@ -230,7 +229,7 @@ pub record Demand2 (ops : Operations) : Type 0 where
 
 pub record Demand3 (ops : Operations) : Type 0 where
   -- "Take any accepted book, the tree compiled from it where that is within its size limit,"
-  pub compiles : (book : List ℕ) → book_check book ≡ Good → length (tree_words book) ≤ 16384
+  pub compiles : (book : List ℕ) → book_check book ≡ Ok tt → length (tree_words book) ≤ 16384
       → (room : ℕ) → length (tree_words book) ≤ room → (o : CompileOutcome) → ops.compile book room o
       → (o.said ≡ answered Done) × CompiledTree ops book (take o.words o.out)
   -- "any well-formed term, and room for the bodies. The tree names the lowest-numbered rule for which some bodies, of all there could be, turn its

@@ -1,16 +1,13 @@
 -- Document 02, "Rules for a front part of the arguments": the wrong programs to which it tempts. Each is a function from inputs to all that comes back, and on the
 -- input of its row it does not give what the definition gives. Each is wrong only as its name says.
-use Rattle.std.specs.Prelude.{ℕ, zero, suc, ◌+◌, ◌≡◌, List, [], ◌∷◌, leb, ltb}
+use Rattle.std.specs.Prelude.{ℕ, zero, suc, ◌+◌, ◌≡◌, List, [], ◌∷◌, leb, ltb, Result, Ok, Err}
 use Rattle.std.proofs.Math.Option.{Option, none, some}
-use Rattle.term.specs.declared.check.Checked.{Checked}
-use Rattle.term.specs.declared.check.Checked.TheVariants.{Good, Bad}
+use Rattle.term.specs.declared.answer.Answer.{Answer}
 use Rattle.term.specs.declared.answer.Answer.TheVariants.{NoFit, BadTerm, Damaged, Over}
 use Rattle.term.specs.Answer.{answered}
 use Rattle.term.specs.Word.{symbol, abstraction, variable, pattern, count, pick}
 use Rattle.term.specs.Row.{Row, nothing, node, width, ◌⧺◌}
 use Rattle.term.specs.Check.{check, term_limits}
-use Rattle.book.specs.declared.accept.Accepted.{Accepted}
-use Rattle.book.specs.declared.accept.Accepted.TheVariants.{Sound, Refused}
 use Rattle.book.specs.Accept.{accept}
 use Rattle.book.specs.Book.{rule_at}
 use Rattle.book.specs.Marked.{s, l, v, m, book_a}
@@ -72,13 +69,13 @@ judged_walk judge book t (RuleFits f n) =
     judge (many_aside book t f) (write f.bodies 0 (right_in (rule_at book f.number))) (set_aside (rule_at book f.number) t)
 judged_walk judge book t (DamagedAt at) = refused (Damaged at)
 
-abbrev pub judged_term : Judging → (book tree term : List ℕ) → Checked → Built
-judged_term judge book tree term Good = judged_walk judge book (tree_of term) (walk (book_fits book) tree (tree_of term))
-judged_term judge book tree term (Bad at) = refused (BadTerm at)
+abbrev pub judged_term : Judging → (book tree term : List ℕ) → Result (Unit {0}) ℕ → Built
+judged_term judge book tree term (Ok _) = judged_walk judge book (tree_of term) (walk (book_fits book) tree (tree_of term))
+judged_term judge book tree term (Err at) = refused (BadTerm at)
 
-abbrev pub judged_book : Judging → (book tree term : List ℕ) → Accepted → Built
-judged_book judge book tree term Sound = judged_term judge book tree term (check term_limits term)
-judged_book judge book tree term (Refused a) = refused a
+abbrev pub judged_book : Judging → (book tree term : List ℕ) → Result (Unit {0}) Answer → Built
+judged_book judge book tree term (Ok _) = judged_term judge book tree term (check term_limits term)
+judged_book judge book tree term (Err a) = refused a
 
 unfoldable pub rewrites_by : Judging → (book tree term : List ℕ) (room : ℕ) → RewriteRootOutcome
 rewrites_by judge book tree term room =

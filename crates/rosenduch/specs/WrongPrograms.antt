@@ -1,7 +1,7 @@
 -- Document 01, "How promises are marked" and "What learners write": the wrong programs that it names, and one to which a single pass over two parts
 -- tempts. Each is a function from inputs to all that comes back, in one table under one claim: on the input of its row a program does not give what the
 -- definition gives. Each is wrong only as its name says.
-use Rattle.std.specs.Prelude.{ℕ, zero, suc, ◌-◌, ◌≡◌, Bool, true, false, ◌&&◌, List, [], ◌∷◌, leb, eqb, length, get_or, replicate}
+use Rattle.std.specs.Prelude.{ℕ, zero, suc, ◌-◌, ◌≡◌, Bool, true, false, ◌&&◌, List, [], ◌∷◌, leb, eqb, length, get_or, replicate, Result, Ok, Err}
 use Rattle.std.proofs.Math.Option.{Option, none, some}
 use Rattle.term.specs.declared.answer.Answer.{Answer}
 use Rattle.term.specs.declared.answer.Answer.TheVariants.{Done, NoFit}
@@ -10,8 +10,6 @@ use Rattle.term.specs.Word.{Head, word, pick}
 use Rattle.term.specs.Row.{Row, nothing, node, words}
 use Rattle.term.specs.Renumber.{three, parameter, position, inside, id_body, renumber, named, to_body}
 use Rattle.term.specs.Part.{same_words, padded}
-use Rattle.book.specs.declared.accept.Accepted.{Accepted}
-use Rattle.book.specs.declared.accept.Accepted.TheVariants.{Sound, Refused}
 use Rattle.book.specs.Accept.{accept}
 use Rattle.book.specs.Marked.{book_a, book_b}
 use Rattle.fit.specs.Left.{Left, end, hole, part}
@@ -130,9 +128,9 @@ root_cases_by make rows (h ∷ hs) = Case h (made_by make (suc (size (entering 0
 abbrev pub rows_tree : Making → List RuleRow → Tree
 rows_tree make rows = Switch 0 (root_cases_by make rows (root_heads rows)) Fail
 
-abbrev pub compiled_by : List ℕ → ℕ → Accepted → CompileOutcome
-compiled_by words room Sound = compile_came (answered Done) (length words) (padded room words)
-compiled_by words room (Refused a) = compile_came (answered a) 0 (replicate room 0)
+abbrev pub compiled_by : List ℕ → ℕ → Result (Unit {0}) Answer → CompileOutcome
+compiled_by words room (Ok _) = compile_came (answered Done) (length words) (padded room words)
+compiled_by words room (Err a) = compile_came (answered a) 0 (replicate room 0)
 
 -- compiling where the tree has room
 unfoldable pub compile_by : Making → (book : List ℕ) (room : ℕ) → CompileOutcome

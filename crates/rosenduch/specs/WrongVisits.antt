@@ -1,13 +1,10 @@
 -- Document 02, "Count the nodes visited": the wrong programs to which it tempts. Each is a function from inputs to all that comes back, and on the input of its
 -- row it does not give what the definition gives. Each is wrong only as its name says.
-use Rattle.std.specs.Prelude.{ℕ, zero, suc, ◌+◌, ◌-◌, ◌≡◌, Bool, true, false, ◌&&◌, List, eqb, length}
-use Rattle.term.specs.declared.check.Checked.{Checked}
-use Rattle.term.specs.declared.check.Checked.TheVariants.{Good, Bad}
+use Rattle.std.specs.Prelude.{ℕ, zero, suc, ◌+◌, ◌-◌, ◌≡◌, Bool, true, false, ◌&&◌, List, eqb, length, Result, Ok, Err}
+use Rattle.term.specs.declared.answer.Answer.{Answer}
 use Rattle.term.specs.Word.{pick}
 use Rattle.term.specs.Row.{Row, words}
 use Rattle.term.specs.Check.{check, term_limits}
-use Rattle.book.specs.declared.accept.Accepted.{Accepted}
-use Rattle.book.specs.declared.accept.Accepted.TheVariants as accepted
 use Rattle.book.specs.Accept.{accept}
 use Rattle.book.specs.Marked.{book_a}
 use Rattle.fit.specs.Match.{tree_of}
@@ -39,13 +36,13 @@ count_by nodes book tree zero t = seek_visits (walk (book_fits book) tree) (node
 count_by nodes book tree (suc budget) t =
     seek_visits (walk (book_fits book) tree) (nodes book tree) t 0 (length (words t)) + after_count (count_by nodes book tree budget) (step book tree t)
 
-abbrev pub count_term : Counting → (book tree term : List ℕ) → ℕ → Checked → ℕ
-count_term nodes book tree term budget Good = count_by nodes book tree budget (tree_of term)
-count_term nodes book tree term budget (Bad at) = 0
+abbrev pub count_term : Counting → (book tree term : List ℕ) → ℕ → Result (Unit {0}) ℕ → ℕ
+count_term nodes book tree term budget (Ok _) = count_by nodes book tree budget (tree_of term)
+count_term nodes book tree term budget (Err at) = 0
 
-abbrev pub count_book : Counting → (book tree term : List ℕ) → ℕ → Accepted → ℕ
-count_book nodes book tree term budget accepted.Sound = count_term nodes book tree term budget (check term_limits term)
-count_book nodes book tree term budget (accepted.Refused a) = 0
+abbrev pub count_book : Counting → (book tree term : List ℕ) → ℕ → Result (Unit {0}) Answer → ℕ
+count_book nodes book tree term budget (Ok _) = count_term nodes book tree term budget (check term_limits term)
+count_book nodes book tree term budget (Err a) = 0
 
 unfoldable pub counts_by : Counting → (book tree term : List ℕ) (budget room : ℕ) → SimplifyOutcome
 counts_by nodes book tree term budget room =

@@ -1,5 +1,5 @@
 // The thirteen public operations. Each takes every input, ends, and answers with document 01's numbers (`term::answer`). After a refusal, 10 or
-// more, each lent output holds zeros alone. What comes back is what the definition `xGives` of the crate that does the work gives.
+// more, each lent output holds zeros alone. What comes back is what the definition `x_gives` of the crate that does the work gives.
 ghost use Rattle.std.specs.Prelude.{◌≡◌, length};
 ghost use Rattle.term.specs.Answer.{answered};
 ghost use Rattle.term.specs.Checked.{check_term_gives};
@@ -14,13 +14,11 @@ ghost use Rattle.text.specs.TermText.{read_term_came, read_term_gives, write_ter
 ghost use Rattle.mend.specs.Repair.{repair_book_came, repair_book_gives};
 ghost use Rattle.text.specs.BookText.{read_book_came, read_book_gives, write_book_came, write_book_gives};
 
-use book::accept::Accepted;
 use compiler::compile::Compiled;
 use fit::rules::RuleMatch;
 use steps::rewrite::Rewritten;
 use steps::simplify::Simplified;
 use term::answer::Answer;
-use term::check::Checked;
 use walk::by_tree::TreeMatch;
 
 // Whether the words are one term. Done, or BadTerm with the first bad place.
@@ -28,8 +26,8 @@ pub fn check_term(words: &[u32]) -> Answer
     ensures { answered result ≡ check_term_gives words.now }
 {
     match term::check::check_term(words) {
-        Checked::Good => Answer::Done,
-        Checked::Bad(at) => Answer::BadTerm(at),
+        Ok(()) => Answer::Done,
+        Err(at) => Answer::BadTerm(at),
     }
 }
 
@@ -38,8 +36,8 @@ pub fn check_book(book: &[u32]) -> Answer
     ensures { answered result ≡ check_book_gives book.now }
 {
     match book::accept::accept_book(book) {
-        Accepted::Sound => Answer::Done,
-        Accepted::Refused(answer) => answer,
+        Ok(()) => Answer::Done,
+        Err(answer) => answer,
     }
 }
 

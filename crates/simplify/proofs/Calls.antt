@@ -7,16 +7,19 @@ use Prim.Native.Nat.{ℕ, suc, ◌≤◌, ◌<◌}
 use native.Mathlib.Omega.{arith}
 use native.Mathlib.Numerals.{add-one}
 use lib.ListN.{length, take, drop}
+use Rattle.std.specs.Prelude.{Option, Some, None, is_none}
 use Rattle.term.specs.Word.{pick}
 use Rattle.tree.specs.Layout.{tree_words}
 use Rattle.steps.specs.Simplify.{simplify}
 use Rattle.text.specs.BookText.{due_after}
+use Rattle.text.specs.Refusal.{refused}
 use Rattle.text.proofs.Laws.{first_words}
 use Rattle.simplify.specs.declared.first.First.{First}
+use Rattle.simplify.specs.declared.first.Ready.{Ready}
 use Rattle.simplify.specs.declared.next.Next.{Next}
 use Rattle.simplify.specs.File.{term_line, terms_are, terms_read, file_said}
-use Rattle.simplify.specs.Printed.{term_block, term_blocks, file_book, file_terms, first_block, blocks}
-use Rattle.simplify.specs.Told.Told.{BlockTold, NextTold, Ready, FirstTold}
+use Rattle.simplify.specs.Printed.{term_block, term_blocks, file_answer, file_book, file_terms, first_block, blocks}
+use Rattle.simplify.specs.Told.Told.{BlockTold, NextTold, FirstTold}
 use Rattle.simplify.proofs.Lines.{Standing, none_left, one_left, standing}
 
 -- what is printed of a block is the block
@@ -59,21 +62,20 @@ module _ (bs book tree out done : List ℕ) (r : First) (room : length out ≡ 6
   first_printed = block_printed (first_block (file_said bs)) out done r.length room told.block
 
   -- a file that is refused: one block
-  pub refusal_printed : r.refused ≡ true → take r.length done ∷ [] ≡ blocks bs
+  pub refusal_printed : r.ready ≡ None → take r.length done ∷ [] ≡ blocks bs
   unfolding blocks
-  refusal_printed e = rw (first_printed, sym told.refuses ∙ e)
+  refusal_printed e =
+      let said : refused (file_answer (file_said bs)) ≡ true = sym told.refuses ∙ ap (λ (o : Option Ready). is_none o) e in
+      rw (first_printed, said)
 
-  -- any other: the first block, and then that of each term
-  pub file_printed : (printed : List (List ℕ)) → r.refused ≡ false → Calls bs (take r.book book) (take r.tree tree) r.at r.number printed → take r.length done ∷ printed ≡ blocks bs
+  -- any other: the first block, and then that of each term, of which the first has the number 0
+  pub file_printed : (printed : List (List ℕ)) (k : Ready) → r.ready ≡ Some k → Calls bs (take k.book book) (take k.tree tree) k.at 0 printed → take r.length done ∷ printed ≡ blocks bs
   unfolding blocks
-  file_printed printed e c =
-      let g = told.ready e in
+  file_printed printed k e c =
+      let g = told.ready k e in
       let f = file_said bs in
-      let said = as_said g r.book r.tree r.number g.book_words g.tree_words g.from_zero c in
+      let taken : refused (file_answer f) ≡ false = sym told.refuses ∙ ap (λ (o : Option Ready). is_none o) e in
+      let said : Calls bs (file_book f) (tree_words (file_book f)) k.at 0 printed = rw (g.book_words, g.tree_words) at c in
       ap₂ ◌∷◌ first_printed
       (terms_printed bs (file_book f) (due_after (file_book f)) (file_terms f) g.terms said
-      ∙ sym (ap (λ (b : Bool). pick b [] (term_blocks (file_book f) 0 (file_terms f))) (sym told.refuses ∙ e)))
-    where
-      as_said : Ready bs book tree r → (n m k : ℕ) → take n book ≡ file_book (file_said bs) → take m tree ≡ tree_words (file_book (file_said bs)) → k ≡ 0
-          → Calls bs (take n book) (take m tree) r.at k printed → Calls bs (file_book (file_said bs)) (tree_words (file_book (file_said bs))) r.at 0 printed
-      as_said g n m k x y z c = rw (x, y, z) at c
+      ∙ sym (ap (λ (b : Bool). pick b [] (term_blocks (file_book f) 0 (file_terms f))) taken))

@@ -5,11 +5,10 @@ use Prim.Native.Nat.{ℕ, ◌+◌, ◌≤◌, ◌<◌}
 use native.Mathlib.Omega.{arith}
 use lib.ListN.{length, get_or, take, drop}
 use borrow.Author.Tests.{le-leb, lt-leb}
+use Rattle.std.specs.Prelude.{Ok, Err}
 use Rattle.text.specs.BookText.{bad_at, book_read, due_after}
 use Rattle.text.specs.Told.BookTold.{RulesTold}
-use Rattle.text.specs.declared.rule_text.Rules.TheVariants as rules
 use Rattle.text.proofs.Laws.{book_counted, book_bad, first_words}
-use Rattle.simplify.specs.declared.input.Judged.TheVariants as judged
 use Rattle.simplify.specs.File.{terms_are, bad_term, terms_read, bad_file, file_said}
 use Rattle.simplify.specs.Told.Told.{TermsTold, FileRead}
 
@@ -26,7 +25,7 @@ module _ (bs : List ℕ) where
     unfolding file_said
     no_book_lem line e = (rw (le-leb (length bs) 65536 h, e), omega (arith, book_bad bs line e))
 
-    module _ (out done : List ℕ) (n at : ℕ) (l : length out ≡ 8385) (r : RulesTold book_read 8385 bs 0 0 out done (rules.Words n at)) where
+    module _ (out done : List ℕ) (n at : ℕ) (l : length out ≡ 8385) (r : RulesTold book_read 8385 bs 0 0 out done (Ok (n, at))) where
       the_words : take n done ≡ r.0
       the_words = first_words out r.0 done n r.3 r.2 (omega (arith, r.5, l))
 
@@ -37,13 +36,13 @@ module _ (bs : List ℕ) where
         pub due_small : due ≤ 259
         due_small = omega (arith, d, book_there.1)
 
-        pub no_terms : (line : ℕ) → TermsTold (terms_read due (drop at bs)) (due + length bs) (judged.Bad line) → BadFile bs line
+        pub no_terms : (line : ℕ) → TermsTold (terms_read due (drop at bs)) (due + length bs) (Err line) → BadFile bs line
         unfolding file_said
         no_terms line t =
             let q : terms_read (due_after r.0) (drop at bs) ≡ bad_term line = ap (λ (k : ℕ). terms_read k (drop at bs)) (sym (d ∙ ap due_after the_words)) ∙ t.0 in
             (rw (le-leb (length bs) 65536 h, r.1, q), omega (arith, t.1, due_small))
 
-        pub all_there : TermsTold (terms_read due (drop at bs)) (due + length bs) judged.Good → FileRead bs done n at
+        pub all_there : TermsTold (terms_read due (drop at bs)) (due + length bs) (Ok tt) → FileRead bs done n at
         unfolding file_said
         all_there t =
             let q : terms_read (due_after r.0) (drop at bs) ≡ terms_are t.0 = ap (λ (k : ℕ). terms_read k (drop at bs)) (sym (d ∙ ap due_after the_words)) ∙ t.1 in

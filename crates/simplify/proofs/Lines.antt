@@ -9,21 +9,19 @@ use native.Mathlib.Numerals.{add-one}
 use lib.Dec.{leb}
 use lib.ListN.{length, drop, length-append, length-drop, drop_of_length-le}
 use borrow.Author.Tests.{leb-true, leb-false}
+use Rattle.std.specs.Prelude.{Option as Maybe, Some, None}
 use Rattle.term.proofs.Laws.{never}
 use Rattle.text.specs.Number.{Read}
 use Rattle.text.specs.Line.{line_text, line}
 use Rattle.text.specs.BookText.{keyed, after_key}
 use Rattle.text.specs.Told.Told.{LineTold}
 use Rattle.text.specs.Told.BookTold.{KeyTold}
-use Rattle.text.specs.declared.key.Key.TheVariants as keys
-use Rattle.text.specs.declared.line.Line.{Line}
-use Rattle.text.specs.declared.line.Line.TheVariants as lines
 use Rattle.text.proofs.Laws.{key_is, line_is}
 use Rattle.simplify.specs.File.{term_key, term_line, Terms, terms_are, bad_term, before, term_then, terms_in, terms_read}
 use Rattle.simplify.specs.Told.Told.{TermLineTold}
 
 -- ---- one line
-pub no_key : (bs : List ℕ) (at : ℕ) → KeyTold term_key bs at keys.None → term_line (drop at bs) ≡ none
+pub no_key : (bs : List ℕ) (at : ℕ) → KeyTold term_key bs at None → term_line (drop at bs) ≡ none
 unfolding term_line
 no_key bs at t = rw t
 
@@ -42,9 +40,9 @@ shorter bs ws rest e = go (keyed term_key bs) refl e
     go none k q = never (cc)
     go (some after) k q = omega (arith, key_shorter bs after k, line_shorter after ws rest q)
 
-pub line_there : (bs : List ℕ) (at a : ℕ) (out done : List ℕ) (r : Line) → at ≤ length bs → KeyTold term_key bs at (keys.After a) → LineTold 4096 bs a 0 out done r → TermLineTold bs at out done r
+pub line_there : (bs : List ℕ) (at a : ℕ) (out done : List ℕ) (r : Maybe (ℕ × ℕ)) → at ≤ length bs → KeyTold term_key bs at (Some a) → LineTold 4096 bs a 0 out done r → TermLineTold bs at out done r
 unfolding term_line
-line_there bs at a out done (lines.Words n next) h k l =
+line_there bs at a out done (Some (n, next)) h k l =
     let few = (line_is 4096 (drop a bs) l.0 (drop next bs) l.1).few in (
       l.0,
       rw k.0 l.1,
@@ -54,7 +52,7 @@ line_there bs at a out done (lines.Words n next) h k l =
       l.4,
       omega (arith, few, l.2),
     )
-line_there bs at a out done lines.Bad h k l = rw k.0 l
+line_there bs at a out done None h k l = rw k.0 l
 
 -- ---- as many lines as bytes are enough
 then_same : (due : ℕ) (f g : List ℕ → Terms) (o : Read (List ℕ)) → ((ws rest : List ℕ) → o ≡ some (ws, rest) → f rest ≡ g rest) → term_then f due o ≡ term_then g due o

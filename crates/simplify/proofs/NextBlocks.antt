@@ -1,12 +1,12 @@
--- A term's block, for each way through the code: no line, a refusal with `-`, or a result, which stands in front of the cleared words and ends where its counts say.
+-- A term's block, for each way through the code where a line stands there: a refusal with `-`, or a result, which stands in front of the cleared words and ends where its counts say.
 use mathlib.Core.Path.{◌≡◌, refl, sym, ap, ◌∙◌}
 use mathlib.Core.List.{List, [], ◌++◌}
-use mathlib.Core.Option.{none, some}
 use Prim.Native.Nat.{ℕ, ◌+◌, ◌-◌, ◌≤◌, ◌<◌}
 use native.Mathlib.Omega.{arith}
 use lib.ListN.{length, take, drop, replicate}
 use lib.Seq.{sets, take_at, length-take-le}
 use borrow.Author.Tests.{le-leb, lt-leb}
+use Rattle.std.specs.Prelude.{Some}
 use Rattle.term.specs.declared.answer.Answer.{Answer}
 use Rattle.term.specs.Answer.{number_of}
 use Rattle.term.specs.Row.{words, width}
@@ -15,11 +15,8 @@ use Rattle.term.specs.Part.{past, part_end}
 use Rattle.term.proofs.Laws.{past_words, part_past}
 use Rattle.steps.specs.Simplify.{Run, Stopped, Ended, simplify, simplify_answer, simplify_words, simplify_steps}
 use Rattle.steps.proofs.Laws.{RunGives, simplify_gives_lem}
-use Rattle.text.specs.Number.{Read}
 use Rattle.text.specs.Line.{line_text}
-use Rattle.text.specs.declared.line.Line.TheVariants as lines
 use Rattle.text.proofs.Laws.{line_short, Wrote, wrote_then, first_words, Brief}
-use Rattle.simplify.specs.declared.next.Next.{Next}
 use Rattle.simplify.specs.File.{term_line}
 use Rattle.simplify.specs.Printed.{dash_line, answer_text, run_words, term_block}
 use Rattle.simplify.specs.Told.Told.{TermLineTold, BlockTold, NextTold}
@@ -56,13 +53,7 @@ joined number a steps out mid done text block start end s w l e =
 
 -- ---- the ways through the code
 module _ (book tree : List ℕ) (number : ℕ) (bs : List ℕ) (at : ℕ) (before area : List ℕ) where
-  pub no_line : (out : List ℕ) → TermLineTold bs at before area lines.Bad → NextTold book tree number bs at out out (term_line (drop at bs)) (record { length = 0; at = length bs; number = number })
-  no_line out t = rw t (refl, refl, refl, refl)
-
-  module _ (n next : ℕ) (t : TermLineTold bs at before area (lines.Words n next)) (room : length before ≡ 4096) where
-    pub line_fits : length area ≡ length before → n ≤ length area
-    line_fits l = omega (arith, t.6, room)
-
+  module _ (n next : ℕ) (t : TermLineTold bs at before area (Some (n, next))) (room : length before ≡ 4096) where
     abbrev the_run : Run
     the_run = simplify book tree 1000 (take n area)
 
@@ -84,9 +75,3 @@ module _ (book tree : List ℕ) (number : ℕ) (bs : List ℕ) (at : ℕ) (befor
           (joined number a steps out mid done (line_text (take (part_end result) result)) (term_block number the_run) start end s w
           (omega (arith, line_short (take (part_end result) result), length-take-le (part_end result) result p))
           (block_given number the_run a steps e f result (simplify_gives_lem book tree 4096 (omega arith) 1000 (take n area)) h r))
-
--- what the loop of the program rests on: each call goes on, and the number of a term is no more than its offset
-pub next_within : (book tree : List ℕ) (number : ℕ) (bs : List ℕ) (at : ℕ) (out done : List ℕ) (o : Read (List ℕ)) (r : Next) → at < length bs → number ≤ at → NextTold book tree number bs at out done o r
-    → (at < r.at) × (r.at ≤ length bs) × (r.number ≤ r.at) × (r.length ≤ 65536)
-next_within book tree number bs at out done none r h k t = (omega (arith, t.2), omega (arith, t.2), omega (arith, t.2, t.3), omega (arith, t.0))
-next_within book tree number bs at out done (some p) r h k t = (t.2, t.3, omega (arith, t.2, t.4), t.0.2)

@@ -6,6 +6,7 @@ ghost use Rattle.text.specs.Line.{line_text};
 ghost use Rattle.simplify.specs.Printed.{head_text, answer_text};
 
 use term::answer::{Answer, number};
+use term::check::MOST_WORDS;
 use term::part::part_end;
 use text::line::write_line;
 use text::write_book::{put_key, write_number_line};
@@ -32,8 +33,8 @@ pub fn write_answer(term: u32, answer: Answer, steps: u32, out: &mut [u8]) -> us
 }
 
 // Writes the line of the term that the words begin with; the offset after it.
-pub fn write_result(words: &[u32], out: &mut [u8], at: usize) -> usize
-    requires { (length words.now ≡ 4096) × (at ≤ 100) }
+pub fn write_result(words: &[u32; MOST_WORDS], out: &mut [u8], at: usize) -> usize
+    requires { at ≤ 100 }
     ensures { (result ≡ at + length (line_text (take (part_end words.now) words.now)))
         × (out.new ≡ sets out.old at (line_text (take (part_end words.now) words.now))) }
 {

@@ -7,11 +7,11 @@ mod first;
 mod input;
 mod next;
 
-ghost use Rattle.std.specs.Prelude.{◌≡◌, ◌≤◌, length};
+ghost use Rattle.std.specs.Prelude.{◌≤◌, length};
 
-use first::first_block;
+use first::{FIRST_TERM, first_block};
 use next::next_block;
-use streams::standard::{Came, has_arguments, print, read_all, read_failed};
+use streams::standard::{has_arguments, print, read_all, read_failed};
 use text::book_text::BOOK;
 use tree::node::MOST_TREE;
 
@@ -36,19 +36,18 @@ fn print_terms(
     rt: &HostRuntime,
     text: &[u8],
     from: usize,
-    first: u32,
     book: &[u32],
     tree: &[u32],
-    out: &mut [u8],
+    out: &mut [u8; BLOCK],
 )
-    requires { (from ≤ length text.now) × (length text.now ≤ 65536) × (first ≤ from) × (length out.old ≡ 65536) }
+    requires { (from ≤ length text.now) × (length text.now ≤ 65536) }
 {
     let mut at = from;
-    let mut term = first;
+    let mut term = FIRST_TERM;
+    // The next offset is known only when the block is made.
     while at < text.len() {
         let next = next_block(text, at, term, book, tree, out);
-        let length = next.length;
-        if !print_block(rt, &out[..length]) {
+        if !print_block(rt, &out[..next.length]) {
             return;
         }
         at = next.at;
@@ -57,47 +56,41 @@ fn print_terms(
 }
 
 // Prints the first block, and the terms of a file that is not refused.
-fn print_file(rt: &HostRuntime, text: &[u8], book: &mut [u32], tree: &mut [u32], out: &mut [u8])
-    requires { (length book.old ≡ 8385) × (length tree.old ≡ 16384) × (length out.old ≡ 65536) }
-{
+fn print_file(
+    rt: &HostRuntime,
+    text: &[u8],
+    book: &mut [u32; BOOK],
+    tree: &mut [u32; MOST_TREE],
+    out: &mut [u8; BLOCK],
+) {
     let first = first_block(text, book, tree, out);
-    let length = first.length;
-    if !print_block(rt, &out[..length]) {
+    if !print_block(rt, &out[..first.length]) {
         return;
     }
-    if first.refused {
-        return;
+    if let Some(ready) = first.ready {
+        print_terms(
+            rt,
+            text,
+            ready.at,
+            &book[..ready.book],
+            &tree[..ready.tree],
+            out,
+        );
     }
-    let words = first.book;
-    let nodes = first.tree;
-    print_terms(
-        rt,
-        text,
-        first.at,
-        first.number,
-        &book[..words],
-        &tree[..nodes],
-        out,
-    );
 }
 
 // Reads standard input to its end, and prints.
+// As in repair but for what is printed: one function for both would take that as a closure, no plainer than two arms.
 fn print_input(
     rt: &HostRuntime,
     text: &mut [u8],
-    book: &mut [u32],
-    tree: &mut [u32],
-    out: &mut [u8],
-)
-    requires { (length book.old ≡ 8385) × (length tree.old ≡ 16384) × (length out.old ≡ 65536) }
-{
+    book: &mut [u32; BOOK],
+    tree: &mut [u32; MOST_TREE],
+    out: &mut [u8; BLOCK],
+) {
     match read_all(&mut rt.stdin(), text) {
-        Came::Bytes(n) => {
-            print_file(rt, &text[..n], book, tree, out);
-        }
-        Came::Failed(error) => {
-            read_failed(&mut rt.stderr(), b"simplify: standard input", error);
-        }
+        Ok(n) => print_file(rt, &text[..n], book, tree, out),
+        Err(error) => read_failed(&mut rt.stderr(), b"simplify: standard input", error),
     }
 }
 

@@ -8,11 +8,10 @@ use crate::input::read_term_line;
 use steps::simplify::simplify;
 use term::answer::number;
 use term::check::MOST_WORDS;
-use text::line::Line;
 use text::refusal::FIRST_REFUSAL;
 use text::write_book::put_key;
 
-// So many bytes of the block, and the offset and the number of the next term.
+// So many bytes of the block, and the offset and the number of the next term. Not an Option: NextTold names all three, also where there is no line.
 #[derive(Clone, Copy)]
 pub struct Next {
     pub length: usize,
@@ -22,46 +21,6 @@ pub struct Next {
 
 // A term is simplified with at most so many steps.
 const BUDGET: u16 = 1000;
-
-// The block of the term at `at`, by way of work areas for its words and for the result.
-fn next_in(
-    text: &[u8],
-    at: usize,
-    term: u32,
-    book: &[u32],
-    tree: &[u32],
-    words: &mut [u32],
-    res: &mut [u32],
-    out: &mut [u8],
-) -> Next
-    requires { (at ≤ length text.now) × (term ≤ 65536) × (length words.old ≡ 4096) × (length res.old ≡ 4096) }
-    ensures { NextTold book.now tree.now term text.now at out.old out.new (term_line (drop at text.now)) result }
-{
-    let end = text.len();
-    let Line::Words(n, next) = read_term_line(text, at, words) else {
-        return Next {
-            length: 0,
-            at: end,
-            number: term,
-        };
-    };
-    let following = term + 1;
-    let run = simplify(book, tree, &words[..n], BUDGET, res);
-    let answer = run.answer;
-    let start = write_answer(term, answer, run.steps as u32, out);
-    if FIRST_REFUSAL <= number(answer) {
-        return Next {
-            length: put_key(out, start, b"-\n"),
-            at: next,
-            number: following,
-        };
-    }
-    Next {
-        length: write_result(res, out, start),
-        at: next,
-        number: following,
-    }
-}
 
 // Writes the block of the term at `at`, which has this number; where no `term=` line stands there, nothing, and the text is at its end.
 pub fn next_block(
@@ -76,6 +35,28 @@ pub fn next_block(
     ensures { NextTold book.now tree.now term text.now at out.old out.new (term_line (drop at text.now)) result }
 {
     let mut words = [0u32; MOST_WORDS];
-    let mut result = [0u32; MOST_WORDS];
-    next_in(text, at, term, book, tree, &mut words, &mut result, out)
+    let mut res = [0u32; MOST_WORDS];
+    let end = text.len();
+    let Some((n, next)) = read_term_line(text, at, &mut words) else {
+        return Next {
+            length: 0,
+            at: end,
+            number: term,
+        };
+    };
+    let following = term + 1;
+    let run = simplify(book, tree, &words[..n], BUDGET, &mut res);
+    let start = write_answer(term, run.answer, run.steps as u32, out);
+    if FIRST_REFUSAL <= number(run.answer) {
+        return Next {
+            length: put_key(out, start, b"-\n"),
+            at: next,
+            number: following,
+        };
+    }
+    Next {
+        length: write_result(&res, out, start),
+        at: next,
+        number: following,
+    }
 }

@@ -5,7 +5,7 @@ use Prim.Native.Nat.{ℕ, zero, suc, ◌+◌, ◌-◌, ◌≤◌, ◌<◌}
 use native.Mathlib.Omega.{arith}
 use lib.ListN.{length, get_or, take, drop, set, length-append, length-set}
 use lib.Seq.{length-take-le, take-length, take_at, take-paste, take-set-lt, set_split, paste}
-use Rattle.term.specs.declared.renumber.Passed.TheVariants.{Done, Stuck}
+use Rattle.std.specs.Prelude.{Some, None}
 use Rattle.term.specs.Word
 use Rattle.term.specs.Word.{Head, word, InTable, count_of}
 use Rattle.term.specs.Row.{Row, nothing, node, width, words, Formed, others}
@@ -23,19 +23,12 @@ use Rattle.steps.proofs.RightTrees.{child_none, child_next, split_words, tree_en
 
 -- ---- arguments behind what was written
 module _ (new : List ℕ) (n first : ℕ) (arguments : List ℕ) (long : length new ≡ 4096) where
-  pub attach_wide : 4096 < n → (done : List ℕ) → AttachTold new n first arguments done Stuck
+  pub attach_over : 4096 < n + length arguments → (done : List ℕ) → AttachTold new n first arguments done None
   unfolding AttachTold
-  attach_wide l done = omega (arith, l)
-
-  pub attach_over : n ≤ 4096 → 4096 - n < length arguments → (done : List ℕ) → AttachTold new n first arguments done Stuck
-  unfolding AttachTold
-  attach_over l m done = omega (arith, l, m)
-
-  pub attach_room : n ≤ 4096 → length arguments ≤ 4096 - n → n + length arguments ≤ length (set new 0 first)
-  attach_room l m = omega (arith, l, m, long, length-set new 0 first)
+  attach_over l done = l
 
   pub attach_done : n ≤ 4096 → length arguments ≤ 4096 - n → (done : List ℕ) → done ≡ paste (set new 0 first) n arguments (length arguments)
-      → AttachTold new n first arguments done (Done (n + length arguments))
+      → AttachTold new n first arguments done (Some (n + length arguments))
   unfolding AttachTold
   attach_done l m done e = (refl, omega (arith, l, m), are)
     where

@@ -9,8 +9,6 @@ use lib.Dec.{leb}
 use lib.ListN.{length, get_or, take, drop}
 use lib.Seq.{take_at, sets-eq}
 use borrow.Author.Tests.{leb-true, le-leb, lt-leb}
-use Rattle.term.specs.declared.renumber.Passed.{Passed}
-use Rattle.term.specs.declared.renumber.Passed.TheVariants as step
 use Rattle.term.specs.Word.{symbol, abstraction, variable, pattern, word, count_of}
 use Rattle.term.specs.Row.{Row, nothing, node, width, words, nesting}
 use Rattle.term.proofs.Laws.{never, and_left, and_right, and_both, count_word_lem, count_symbol, words_node}
@@ -21,9 +19,9 @@ use Rattle.walk.specs.Told.State.{part_from, Parted}
 use Rattle.walk.proofs.Laws.{parted_body}
 use Rattle.steps.specs.Right.{write}
 use Rattle.steps.specs.Arguments.{takes, with_aside}
-use Rattle.steps.specs.declared.aside.Root.TheVariants.{Symbol, Other}
-use Rattle.steps.specs.declared.rules.Rewrote.{Rewrote}
-use Rattle.steps.specs.declared.rules.Rewrote.TheVariants as rewrote
+use Rattle.std.specs.Prelude.{Some, None, Ok, Err, Option}
+use Rattle.std.specs.Option.{ok_or}
+use Rattle.term.specs.declared.answer.Answer.TheVariants as answer
 use Rattle.steps.specs.Told.Told.{RightRow}
 use Rattle.steps.specs.Told.RightWalk.{BodiesStand, WrittenWithin, RightWritten, RightStands}
 use Rattle.steps.specs.Told.Aside.{root_is, RootTold, AttachTold}
@@ -55,20 +53,16 @@ not_within t n = go (within_limits t) refl
     go false e = refl
 
 -- ---- what stands in front
-abbrev pub rewrote_by : Passed → Rewrote
-rewrote_by (step.Done n) = rewrote.Wrote n
-rewrote_by step.Stuck = rewrote.Over
-
-wrote_within : (out done : List ℕ) → length out ≡ 4096 → (t : Row) (r : Passed) → WrittenWithin out done t r → RowWritten t done (rewrote_by r)
-wrote_within out done long t (step.Done n) w =
+wrote_within : (out done : List ℕ) → length out ≡ 4096 → (t : Row) (r : Option ℕ) → WrittenWithin out done t r → RowWritten t done (ok_or r answer.Over)
+wrote_within out done long t (Some n) w =
     let s = within_short t w.0 in
     let z : 0 + length (words t) ≡ length (words t) = omega arith in
     let e : done ≡ words t ++ drop (length (words t)) out = w.2 ∙ sets-eq (words t) out 0 (omega arith) ∙ rw z in
     (w.0, w.1, omega (arith, w.1), ap (take n) e ∙ take_at (words t) (drop (length (words t)) out) n (sym w.1))
-wrote_within out done long t step.Stuck w = w
+wrote_within out done long t None w = (refl, w)
 
 -- ---- the root tells
-root_refuses : (t more : Row) → Other ≡ root_is t → takes t more ≡ false
+root_refuses : (t more : Row) → None ≡ root_is t → takes t more ≡ false
 unfolding takes root_is
 root_refuses nothing more e = refl
 root_refuses (node (symbol i c) kids rest) more e = never (cc)
@@ -80,7 +74,7 @@ record SymbolThere (t more : Row) (w : ℕ) : Type 0 where
   tells : takes t more ≡ leb (count_of w + width more) 15
   first : get_or (words t) 0 0 ≡ w
 
-root_symbol_there : (t more : Row) (w : ℕ) → Shaped t → Symbol w ≡ root_is t → SymbolThere t more w
+root_symbol_there : (t more : Row) (w : ℕ) → Shaped t → Some w ≡ root_is t → SymbolThere t more w
 unfolding takes root_is Shaped
 root_symbol_there nothing more w s e = never (cc)
 root_symbol_there (node (symbol i c) kids rest) more w s e =
@@ -99,8 +93,8 @@ module _ (right : List ℕ) (b : ℕ) (part : List ℕ) (parted : Parted part) (
   more = aside_arguments b (part_from part 0)
 
   -- ---- nothing is set aside
-  pub front_plain : count_of (get_or part 0 0) ≤ b → (out done : List ℕ) → length out ≡ 4096 → (r : Passed) → RightWritten right bodies lengths out done r
-      → FrontWritten right b part bodies lengths done (rewrote_by r)
+  pub front_plain : count_of (get_or part 0 0) ≤ b → (out done : List ℕ) → length out ≡ 4096 → (r : Option ℕ) → RightWritten right bodies lengths out done r
+      → FrontWritten right b part bodies lengths done (ok_or r answer.Over)
   unfolding RightWritten FrontWritten
   front_plain l out done long r told vars k bs p good one low same g =
       rw (aside_none part parted some_words b l, nothing_aside (write bs 0 p)) (wrote_within out done long (write bs 0 p) r (told vars k bs p good one low same g))
@@ -110,8 +104,8 @@ module _ (right : List ℕ) (b : ℕ) (part : List ℕ) (parted : Parted part) (
     wide : width more ≡ m
     wide = aside_width part parted some_words b ∙ sym many
 
-    refused_told : (u : Row) → takes u more ≡ false → (out : List ℕ) → TakenTold (aside b t) (with_aside u more) out (rewrote.CannotTake m)
-    refused_told u e out = rw (refuses_aside u more (omega (arith, wide, many, some-aside)) e) (ap rewrote.CannotTake (many ∙ sym (aside_many part parted some_words b)))
+    refused_told : (u : Row) → takes u more ≡ false → (out : List ℕ) → TakenTold (aside b t) (with_aside u more) out (Err (answer.CannotTake m))
+    refused_told u e out = rw (refuses_aside u more (omega (arith, wide, many, some-aside)) e) (ap (λ (n : ℕ). Err (answer.CannotTake n)) (many ∙ sym (aside_many part parted some_words b)))
 
     module _ (vars : ℕ) (k : ℕ → ℕ) (bs : ℕ → Row) (p : Row) (good : RightRow vars k 0 p) (one : width p ≡ 1) (low : nesting p ≤ 16) (same : words p ≡ right) (g : BodiesStand vars bodies lengths bs) where
       abbrev u : Row
@@ -126,14 +120,14 @@ module _ (right : List ℕ) (b : ℕ) (part : List ℕ) (parted : Parted part) (
       single : width u ≡ 1
       single = width_written vars bs (λ x h. (g.body x h).one) k 0 p good ∙ one
 
-      there : (w : ℕ) → RootTold right 0 bodies lengths (Symbol w) → SymbolThere u more w
+      there : (w : ℕ) → RootTold right 0 bodies lengths (Some w) → SymbolThere u more w
       unfolding RootTold
       there w root = root_symbol_there u more w shaped (root vars k bs p [] stands g)
 
-      full : (w : ℕ) → RootTold right 0 bodies lengths (Symbol w) → 15 < count_of w + m → takes u more ≡ false
+      full : (w : ℕ) → RootTold right 0 bodies lengths (Some w) → 15 < count_of w + m → takes u more ≡ false
       full w root l = (there w root).tells ∙ lt-leb (count_of w + width more) 15 (omega (arith, l, wide))
 
-      module _ (w : ℕ) (root : RootTold right 0 bodies lengths (Symbol w)) (room : count_of w + m ≤ 15) where
+      module _ (w : ℕ) (root : RootTold right 0 bodies lengths (Some w)) (room : count_of w + m ≤ 15) where
         takes_them : takes u more ≡ true
         takes_them = (there w root).tells ∙ le-leb (count_of w + width more) 15 (omega (arith, room, wide))
 
@@ -154,7 +148,7 @@ module _ (right : List ℕ) (b : ℕ) (part : List ℕ) (parted : Parted part) (
             let z : within_limits u ≡ true = low_within u (omega (arith, h.long, within_short s q)) (omega (arith, h.deep, l.0)) (omega (arith, h.large, l.1)) in
             never (cc))
 
-        module _ (out mid : List ℕ) (n : ℕ) (x : RowWritten u mid (rewrote.Wrote n)) (arguments : List ℕ) (are : arguments ≡ words more) (first : ℕ) (grows : first ≡ w + m * 65536) (done : List ℕ) where
+        module _ (out mid : List ℕ) (n : ℕ) (x : RowWritten u mid (Ok n)) (arguments : List ℕ) (are : arguments ≡ words more) (first : ℕ) (grows : first ≡ w + m * 65536) (done : List ℕ) where
           long : length (words s) ≡ n + length arguments
           long = omega (arith, as_taken.long, x.1, ap length are)
 
@@ -164,9 +158,9 @@ module _ (right : List ℕ) (b : ℕ) (part : List ℕ) (parted : Parted part) (
               let f : first ≡ h.first = omega (arith, grows, h.grown, (there w root).first, wide) in
               rw (e, are, f) (sym (h.same single))
 
-          attached : (r : Passed) → AttachTold mid n first arguments done r → RowWritten s done (rewrote_by r)
+          attached : (r : Option ℕ) → AttachTold mid n first arguments done r → RowWritten s done (ok_or r answer.Over)
           unfolding AttachTold
-          attached (step.Done size) a =
+          attached (Some size) a =
               let h = as_taken in
               let l = limits_within u shaped x.0 in
               let o = aside_is b t (parted_body part parted some_words) in
@@ -176,27 +170,27 @@ module _ (right : List ℕ) (b : ℕ) (part : List ℕ) (parted : Parted part) (
                 a.1,
                 a.2 (omega (arith, x.1, some_long u single)) ∙ attached_words x.3,
               )
-          attached step.Stuck a = not_within s (λ q. omega (arith, within_short s q, long, a))
+          attached None a = (refl, not_within s (λ q. omega (arith, within_short s q, long, a)))
 
-    pub front_other : RootTold right 0 bodies lengths Other → (out : List ℕ) → FrontWritten right b part bodies lengths out (rewrote.CannotTake m)
+    pub front_other : RootTold right 0 bodies lengths None → (out : List ℕ) → FrontWritten right b part bodies lengths out (Err (answer.CannotTake m))
     unfolding RootTold FrontWritten
     front_other root out vars k bs p good one low same g =
         refused_told (write bs 0 p) (root_refuses (write bs 0 p) more (root vars k bs p [] (stands vars k bs p good one low same g) g)) out
 
-    module _ (w : ℕ) (root : RootTold right 0 bodies lengths (Symbol w)) where
-      pub front_full : 15 < count_of w + m → (out : List ℕ) → FrontWritten right b part bodies lengths out (rewrote.CannotTake m)
+    module _ (w : ℕ) (root : RootTold right 0 bodies lengths (Some w)) where
+      pub front_full : 15 < count_of w + m → (out : List ℕ) → FrontWritten right b part bodies lengths out (Err (answer.CannotTake m))
       unfolding FrontWritten
       front_full l out vars k bs p good one low same g = refused_told (write bs 0 p) (full vars k bs p good one low same g w root l) out
 
       module _ (room : count_of w + m ≤ 15) where
-        pub front_over : (out done : List ℕ) → RightWritten right bodies lengths out done step.Stuck → FrontWritten right b part bodies lengths done rewrote.Over
+        pub front_over : (out done : List ℕ) → RightWritten right bodies lengths out done None → FrontWritten right b part bodies lengths done (Err answer.Over)
         unfolding RightWritten FrontWritten
         front_over out done told vars k bs p good one low same g =
-            rw (with_them vars k bs p good one low same g w root room) (over vars k bs p good one low same g w root room (told vars k bs p good one low same g))
+            rw (with_them vars k bs p good one low same g w root room) (refl, over vars k bs p good one low same g w root room (told vars k bs p good one low same g))
 
-        pub front_attached : (out mid : List ℕ) → length out ≡ 4096 → (n : ℕ) → RightWritten right bodies lengths out mid (step.Done n) → (arguments : List ℕ) → arguments ≡ words (aside_arguments b (part_from part 0))
-            → (first : ℕ) → first ≡ w + m * 65536 → (done : List ℕ) (r : Passed) → AttachTold mid n first arguments done r → FrontWritten right b part bodies lengths done (rewrote_by r)
+        pub front_attached : (out mid : List ℕ) → length out ≡ 4096 → (n : ℕ) → RightWritten right bodies lengths out mid (Some n) → (arguments : List ℕ) → arguments ≡ words (aside_arguments b (part_from part 0))
+            → (first : ℕ) → first ≡ w + m * 65536 → (done : List ℕ) (r : Option ℕ) → AttachTold mid n first arguments done r → FrontWritten right b part bodies lengths done (ok_or r answer.Over)
         unfolding RightWritten FrontWritten
         front_attached out mid long n told arguments are first grows done r a vars k bs p good one low same g =
-            let x = wrote_within out mid long (write bs 0 p) (step.Done n) (told vars k bs p good one low same g) in
+            let x = wrote_within out mid long (write bs 0 p) (Some n) (told vars k bs p good one low same g) in
             rw (with_them vars k bs p good one low same g w root room) (attached vars k bs p good one low same g w root room out mid n x arguments are first grows done r a)

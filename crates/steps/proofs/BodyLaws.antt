@@ -4,8 +4,6 @@ use mathlib.Core.List.{List, ◌++◌}
 use Prim.Native.Nat.{ℕ, suc, ◌+◌, ◌-◌, ◌≤◌, ◌<◌}
 use native.Mathlib.Omega.{arith}
 use lib.ListN.{length, length-append}
-use Rattle.term.specs.declared.renumber.Passed.{Passed}
-use Rattle.term.specs.declared.renumber.Passed.TheVariants as step
 use Rattle.term.specs.Word.{Head, symbol, abstraction, variable, pattern, rank, word, InTable, kind_of, ident_of}
 use Rattle.term.specs.Row.{Row, nothing, node, width, words, ◌⧺◌}
 use Rattle.term.specs.Renumber.{inside}
@@ -14,12 +12,10 @@ use Rattle.fit.specs.Constraint.{tree}
 use Rattle.fit.specs.Told.Told.{TermStands}
 use Rattle.fit.specs.Told.BuildWalk.{RowBuilt}
 use Rattle.fit.proofs.Laws.{row_none, row_first_over, row_then_lem, TermFirst, term_first}
-use Rattle.steps.specs.declared.right.Both.{Both}
-use Rattle.steps.specs.declared.right.Both.TheVariants.{Done, Stuck}
-use Rattle.steps.specs.declared.under.Under.{Under}
+use Rattle.std.specs.Prelude.{Option, Some, None}
 use Rattle.steps.specs.Right.{single, replaced}
 use Rattle.steps.specs.Told.Told.{RightRow, written_in, deeper, variable_in}
-use Rattle.steps.specs.Told.Under.{Around, deeper_by, ids_in}
+use Rattle.steps.specs.Told.Under.{Place, Around, deeper_by, ids_in}
 use Rattle.steps.specs.Told.RightWalk.{child_at, RightTold, VariableTold, BothWritten, BodyTold}
 use Rattle.steps.proofs.Replaced.{tree_before, none_wide, replaced_nothing, replaced_node, replaced_join}
 use Rattle.steps.proofs.Writing.{IdCase, own, inner, outside, id_case}
@@ -73,7 +69,7 @@ module _ (m : ℕ → ℕ → Row) (e : ℕ) where
   node_tree (pattern x c) kids t l q = absurd (omega (arith, l, rank_pattern x c))
 
 -- ---- a variable of a body
-module _ (u : Under) (e count levels i : ℕ) (right : List ℕ) (at : ℕ) (bodies lengths out : List ℕ) (to : ℕ) (done : List ℕ) (r : Passed) where
+module _ (u : Place) (e count levels i : ℕ) (right : List ℕ) (at : ℕ) (bodies lengths out : List ℕ) (to : ℕ) (done : List ℕ) (r : Option ℕ) where
   pub variable_own : i ≤ e → RowBuilt levels out to done (single i) r → VariableTold u e count levels i right at bodies lengths out to done r
   unfolding VariableTold
   variable_own h wrote vars k b kids after s g l = rw (body_own_in b u.depth (ids_in u) kids e i h) wrote
@@ -97,20 +93,20 @@ module _ (u : Under) (e count levels i : ℕ) (right : List ℕ) (at : ℕ) (bod
       rw t (told vars k b (tree kids (i - e - 1)) c.0 c.1 g l)
 
 -- ---- rows of a body by their first tree and the rest
-both_first_over : (levels : ℕ) (out : List ℕ) (to : ℕ) (mid done : List ℕ) (f g : Row) (i j : ℕ) → BothWritten levels out to mid f i Stuck → BothWritten levels out to done (f ⧺ g) j Stuck
+both_first_over : (levels : ℕ) (out : List ℕ) (to : ℕ) (mid done : List ℕ) (f g : Row) (i j : ℕ) → BothWritten levels out to mid f i None → BothWritten levels out to done (f ⧺ g) j None
 both_first_over levels out to mid done f g i j over = row_first_over levels out to f g mid done over
 
-both_then : (levels : ℕ) (out : List ℕ) (to : ℕ) (mid done : List ℕ) (f g : Row) (i j a c : ℕ) → BothWritten levels out to mid f i (Done a c) → (r : Both)
+both_then : (levels : ℕ) (out : List ℕ) (to : ℕ) (mid done : List ℕ) (f g : Row) (i j a c : ℕ) → BothWritten levels out to mid f i (Some (a, c)) → (r : Option (ℕ × ℕ))
     → BothWritten levels mid c done g j r → BothWritten levels out to done (f ⧺ g) j r
-both_then levels out to mid done f g i j a c x (Done p q) y = (y.0, row_then_lem levels out to f g mid c x.1 done (step.Done q) y.1)
-both_then levels out to mid done f g i j a c x Stuck y = row_then_lem levels out to f g mid c x.1 done step.Stuck y
+both_then levels out to mid done f g i j a c x (Some (p, q)) y = (y.0, row_then_lem levels out to f g mid c x.1 done (Some q) y.1)
+both_then levels out to mid done f g i j a c x None y = row_then_lem levels out to f g mid c x.1 done None y
 
 long_split : (h : Head) (kids rest : Row) → length (words (node h kids rest)) ≡ length (words (node h kids nothing)) + length (words rest)
 long_split h kids rest =
     ap (λ (t : Row). length (words t)) (sym (tree_before h kids rest)) ∙ ap length (words_join (node h kids nothing) rest) ∙ length-append (words (node h kids nothing)) (words rest)
 
-module _ (u : Under) (e count levels trees : ℕ) (right : List ℕ) (at : ℕ) (bodies : List ℕ) (from : ℕ) (lengths out : List ℕ) (to : ℕ) where
-  pub body_none : trees ≡ 0 → BodyTold u e count levels trees right at bodies from lengths out to out (Done from to)
+module _ (u : Place) (e count levels trees : ℕ) (right : List ℕ) (at : ℕ) (bodies : List ℕ) (from : ℕ) (lengths out : List ℕ) (to : ℕ) where
+  pub body_none : trees ≡ 0 → BodyTold u e count levels trees right at bodies from lengths out to out (Some (from, to))
   unfolding BodyTold
   body_none z vars k b kids after q beyond s g t l =
       let n : q ≡ nothing = none_wide q (t.wide ∙ z) in
@@ -119,22 +115,22 @@ module _ (u : Under) (e count levels trees : ℕ) (right : List ℕ) (at : ℕ) 
       (omega (arith, w), rw x (row_none levels out to l))
 
   module _ (z : trees ≡ 0 → ⊥) where
-    pub body_ended : (done : List ℕ) → length bodies ≤ from → BodyTold u e count levels trees right at bodies from lengths out to done Stuck
+    pub body_ended : (done : List ℕ) → length bodies ≤ from → BodyTold u e count levels trees right at bodies from lengths out to done None
     unfolding BodyTold
     body_ended done h vars k b kids after q beyond s g t l = absurd (omega (arith, h, (term_first trees bodies from z q beyond t).within))
 
-    pub body_stuck : (mid : List ℕ) → BodyTold u e count levels 1 right at bodies from lengths out to mid Stuck → BodyTold u e count levels trees right at bodies from lengths out to mid Stuck
+    pub body_stuck : (mid : List ℕ) → BodyTold u e count levels 1 right at bodies from lengths out to mid None → BodyTold u e count levels trees right at bodies from lengths out to mid None
     unfolding BodyTold
     body_stuck mid told vars k b kids after q beyond s g t l = shown (term_first trees bodies from z q beyond t)
       where
-        shown : TermFirst trees bodies from q beyond → BothWritten levels out to mid (replaced (variable_in b u.depth (ids_in u) kids) e q) (from + length (words q)) Stuck
+        shown : TermFirst trees bodies from q beyond → BothWritten levels out to mid (replaced (variable_in b u.depth (ids_in u) kids) e q) (from + length (words q)) None
         shown f =
             let m = variable_in b u.depth (ids_in u) kids in
             rw (f.is, split_replaced (variable_in b u.depth (ids_in u) kids) e f.head f.children f.right)
             (both_first_over levels out to mid mid (replaced m e (node f.head f.children nothing)) (replaced m e f.right) 0 0
             (told vars k b kids after (node f.head f.children nothing) (words f.right ++ beyond) s g f.alone l))
 
-    pub body_more : (mid : List ℕ) (p c : ℕ) → BodyTold u e count levels 1 right at bodies from lengths out to mid (Done p c) → (done : List ℕ) (r : Both)
+    pub body_more : (mid : List ℕ) (p c : ℕ) → BodyTold u e count levels 1 right at bodies from lengths out to mid (Some (p, c)) → (done : List ℕ) (r : Option (ℕ × ℕ))
         → BodyTold u e count levels (trees - 1) right at bodies p lengths mid c done r → BodyTold u e count levels trees right at bodies from lengths out to done r
     unfolding BodyTold
     body_more mid p c told done r rest vars k b kids after q beyond s g t l = shown (term_first trees bodies from z q beyond t)

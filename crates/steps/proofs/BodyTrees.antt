@@ -4,7 +4,6 @@ use mathlib.Core.List.{List, ◌++◌}
 use Prim.Native.Nat.{ℕ, ◌+◌, ◌-◌, ◌≤◌, ◌<◌}
 use native.Mathlib.Omega.{arith}
 use lib.ListN.{length, get_or, set, drop, take-append-drop}
-use Rattle.term.specs.declared.renumber.Passed.TheVariants as step
 use Rattle.term.specs.Word
 use Rattle.term.specs.Word.{Head, symbol, abstraction, variable, pattern, rank, word, InTable, kind_of, count_of, ident_of}
 use Rattle.term.specs.Row.{Row, nothing, node, width, words}
@@ -14,12 +13,11 @@ use Rattle.term.proofs.Laws.{words_nothing, width_nothing, width_node, nesting_n
 use Rattle.fit.specs.Told.Told.{TermStands}
 use Rattle.fit.specs.Build.{start_of}
 use Rattle.fit.proofs.Laws.{row_full, row_node, words_tree, head_at_lem, term_first, words_at_are}
-use Rattle.steps.specs.declared.right.Both.{Both}
-use Rattle.steps.specs.declared.right.Both.TheVariants.{Done, Stuck}
-use Rattle.steps.specs.declared.under.Under.{Under}
+use Rattle.std.specs.Prelude.{Option, Some, None, MatchOption}
+use Rattle.std.specs.Option.{IsSomeAnd}
 use Rattle.steps.specs.Right.{replaced}
 use Rattle.steps.specs.Told.Told.{RightRow, variable_in}
-use Rattle.steps.specs.Told.Under.{lowered, ids_in}
+use Rattle.steps.specs.Told.Under.{Place, lowered, ids_in}
 use Rattle.steps.specs.Told.RightWalk.{BodiesStand, PatternTold, VariableTold, BothWritten, BodyTold}
 use Rattle.steps.proofs.Replaced.{none_wide}
 use Rattle.steps.proofs.Depths.{length_ids}
@@ -65,10 +63,10 @@ module _ (bodies : List ℕ) (from : ℕ) where
   one_body (node h kids nothing) beyond s = one_node h kids beyond s
   one_body (node h kids (node g ks rest)) beyond s = absurd (omega (arith, s.wide, width_node h kids (node g ks rest), width_node g ks rest))
 
-both_node : (levels : ℕ) (out : List ℕ) (to : ℕ) (h : Head) (kids : Row) (i j : ℕ) → InTable h → width kids ≡ Word.count h → 1 ≤ levels → i ≡ j → (done : List ℕ) (r : Both)
+both_node : (levels : ℕ) (out : List ℕ) (to : ℕ) (h : Head) (kids : Row) (i j : ℕ) → InTable h → width kids ≡ Word.count h → 1 ≤ levels → i ≡ j → (done : List ℕ) (r : Option (ℕ × ℕ))
     → BothWritten (levels - 1) (set out to (word h)) (to + 1) done kids i r → BothWritten levels out to done (node h kids nothing) j r
-both_node levels out to h kids i j t w l e done (Done a c) r = (r.0 ∙ e, row_node levels out to h kids t w l done (step.Done c) r.1)
-both_node levels out to h kids i j t w l e done Stuck r = row_node levels out to h kids t w l done step.Stuck r
+both_node levels out to h kids i j t w l e done (Some (a, c)) r = (r.0 ∙ e, row_node levels out to h kids t w l done (Some c) r.1)
+both_node levels out to h kids i j t w l e done None r = row_node levels out to h kids t w l done None r
 
 -- a variable has no children
 no_count : (h : Head) → InTable h → kind_of (word h) ≡ 2 → Word.count h ≡ 0
@@ -77,7 +75,7 @@ no_count abstraction t q = absurd (omega (arith, q, kind_word abstraction t, kin
 no_count (variable i) t q = count_variable i
 no_count (pattern x c) t q = absurd (omega (arith, q, kind_word (pattern x c) t, kind_pattern x c))
 
-module _ (u : Under) (e count levels : ℕ) (right : List ℕ) (at : ℕ) (bodies : List ℕ) (from : ℕ) (lengths out : List ℕ) (to : ℕ) where
+module _ (u : Place) (e count levels : ℕ) (right : List ℕ) (at : ℕ) (bodies : List ℕ) (from : ℕ) (lengths out : List ℕ) (to : ℕ) where
   -- ---- a variable
   module _ (two : kind_of (get_or bodies from 0) ≡ 2) (done : List ℕ) where
     stands_for : (m : ℕ → ℕ → Row) (q : Row) (beyond : List ℕ) → OneBody bodies from q beyond → replaced m e q ≡ m e (ident_of (get_or bodies from 0))
@@ -90,15 +88,15 @@ module _ (u : Under) (e count levels : ℕ) (right : List ℕ) (at : ℕ) (bodie
         let z : length (words x.kids) ≡ 0 = ap (λ (r : Row). length (words r)) n ∙ ap length words_nothing in
         omega (arith, x.long, z)
 
-    pub body_stands_for : (c : ℕ) → VariableTold u e count levels (ident_of (get_or bodies from 0)) right at bodies lengths out to done (step.Done c)
-        → BodyTold u e count levels 1 right at bodies from lengths out to done (Done (from + 1) c)
+    pub body_stands_for : (c : ℕ) → VariableTold u e count levels (ident_of (get_or bodies from 0)) right at bodies lengths out to done (Some c)
+        → BodyTold u e count levels 1 right at bodies from lengths out to done (Some (from + 1, c))
     unfolding BodyTold VariableTold
     body_stands_for c told vars k b kids after q beyond s g t l =
         let x = one_body bodies from q beyond t in
         (omega (arith, one_word q beyond x), rw (stands_for (variable_in b u.depth (ids_in u) kids) q beyond x) (told vars k b kids after s g l))
 
-    pub body_stands_stuck : VariableTold u e count levels (ident_of (get_or bodies from 0)) right at bodies lengths out to done step.Stuck
-        → BodyTold u e count levels 1 right at bodies from lengths out to done Stuck
+    pub body_stands_stuck : VariableTold u e count levels (ident_of (get_or bodies from 0)) right at bodies lengths out to done None
+        → BodyTold u e count levels 1 right at bodies from lengths out to done None
     unfolding BodyTold VariableTold
     body_stands_stuck told vars k b kids after q beyond s g t l =
         rw (stands_for (variable_in b u.depth (ids_in u) kids) q beyond (one_body bodies from q beyond t)) (told vars k b kids after s g l)
@@ -109,25 +107,25 @@ module _ (u : Under) (e count levels : ℕ) (right : List ℕ) (at : ℕ) (bodie
     node_is m q beyond x =
         ap (replaced m e) x.is ∙ node_tree m e x.head x.kids x.table x.low (λ z. no_variable (ap kind_of (sym x.word_is) ∙ z))
 
-    pub body_deep : (done : List ℕ) → levels ≡ 0 → BodyTold u e count levels 1 right at bodies from lengths out to done Stuck
+    pub body_deep : (done : List ℕ) → levels ≡ 0 → BodyTold u e count levels 1 right at bodies from lengths out to done None
     unfolding BodyTold
     body_deep done z vars k b kids after q beyond s g t l = shown (one_body bodies from q beyond t)
       where
-        shown : OneBody bodies from q beyond → BothWritten levels out to done (replaced (variable_in b u.depth (ids_in u) kids) e q) (from + length (words q)) Stuck
+        shown : OneBody bodies from q beyond → BothWritten levels out to done (replaced (variable_in b u.depth (ids_in u) kids) e q) (from + length (words q)) None
         shown x =
             rw (node_is (variable_in b u.depth (ids_in u) kids) q beyond x)
             (λ f n r. omega (arith, n, z, nesting_node x.head (replaced (variable_in b u.depth (ids_in u) kids) (inside x.head e) x.kids) nothing))
 
-    pub body_full : (done : List ℕ) → 4096 ≤ to → BodyTold u e count levels 1 right at bodies from lengths out to done Stuck
+    pub body_full : (done : List ℕ) → 4096 ≤ to → BodyTold u e count levels 1 right at bodies from lengths out to done None
     unfolding BodyTold
     body_full done h vars k b kids after q beyond s g t l = shown (one_body bodies from q beyond t)
       where
-        shown : OneBody bodies from q beyond → BothWritten levels out to done (replaced (variable_in b u.depth (ids_in u) kids) e q) (from + length (words q)) Stuck
+        shown : OneBody bodies from q beyond → BothWritten levels out to done (replaced (variable_in b u.depth (ids_in u) kids) e q) (from + length (words q)) None
         shown x =
             rw (node_is (variable_in b u.depth (ids_in u) kids) q beyond x)
             (row_full levels out to x.head (replaced (variable_in b u.depth (ids_in u) kids) (inside x.head e) x.kids) done h)
 
-    pub body_inner : 1 ≤ levels → to < 4096 → (done : List ℕ) (r : Both)
+    pub body_inner : 1 ≤ levels → to < 4096 → (done : List ℕ) (r : Option (ℕ × ℕ))
         → BodyTold (lowered u) (inside_word (get_or bodies from 0) e) count (levels - 1) (count_of (get_or bodies from 0)) right at bodies (from + 1) lengths (set out to (get_or bodies from 0)) (to + 1) done r
         → BodyTold u e count levels 1 right at bodies from lengths out to done r
     unfolding BodyTold
@@ -157,17 +155,24 @@ whole_body bodies lengths x vars b g l =
       same = sym (take-append-drop (get_or lengths x 0) n) ∙ ap (λ (ws : List ℕ). ws ++ drop (get_or lengths x 0) (drop (start_of lengths x) bodies)) (sym (g.same x l ∙ words_at_are bodies lengths x));
     }
 
-module _ (u : Under) (levels w : ℕ) (right : List ℕ) (at : ℕ) (bodies lengths out : List ℕ) (to : ℕ) (done : List ℕ) where
-  pub pattern_none : 16 ≤ ident_of w → PatternTold u levels w right at bodies lengths out to done step.Stuck
+module _ (u : Place) (levels w : ℕ) (right : List ℕ) (at : ℕ) (bodies lengths out : List ℕ) (to : ℕ) (done : List ℕ) where
+  pub pattern_none : 16 ≤ ident_of w → PatternTold u levels w right at bodies lengths out to done None
   unfolding PatternTold
   pattern_none h vars k b kids after s g x l = absurd (omega (arith, h, x, g.few))
 
-  pub pattern_wrote : (a c : ℕ) → BodyTold u 0 (count_of w) levels 1 right at bodies (start_of lengths (ident_of w)) lengths out to done (Done a c) → PatternTold u levels w right at bodies lengths out to done (step.Done c)
+  pattern_wrote : (a c : ℕ) → BodyTold u 0 (count_of w) levels 1 right at bodies (start_of lengths (ident_of w)) lengths out to done (Some (a, c)) → PatternTold u levels w right at bodies lengths out to done (Some c)
   unfolding PatternTold BodyTold
   pattern_wrote a c told vars k b kids after s g x l =
       (told vars k b kids after (b (ident_of w)) (drop (get_or lengths (ident_of w) 0) (drop (start_of lengths (ident_of w)) bodies)) s g (whole_body bodies lengths (ident_of w) vars b g x) l).1
 
-  pub pattern_stuck : BodyTold u 0 (count_of w) levels 1 right at bodies (start_of lengths (ident_of w)) lengths out to done Stuck → PatternTold u levels w right at bodies lengths out to done step.Stuck
+  pattern_stuck : BodyTold u 0 (count_of w) levels 1 right at bodies (start_of lengths (ident_of w)) lengths out to done None → PatternTold u levels w right at bodies lengths out to done None
   unfolding PatternTold BodyTold
   pattern_stuck told vars k b kids after s g x l =
       told vars k b kids after (b (ident_of w)) (drop (get_or lengths (ident_of w) 0) (drop (start_of lengths (ident_of w)) bodies)) s g (whole_body bodies lengths (ident_of w) vars b g x) l
+
+  -- of the offsets after the body and after what it writes only the second is told
+  pub pattern_told : (o : Option (ℕ × ℕ)) → BodyTold u 0 (count_of w) levels 1 right at bodies (start_of lengths (ident_of w)) lengths out to done o
+      → (r : Option ℕ) → MatchOption o (r ≡ None) (λ x. IsSomeAnd r (λ k. k ≡ x.1)) → PatternTold u levels w right at bodies lengths out to done r
+  pattern_told (Some x) told (Some c) m = rw m (pattern_wrote x.0 x.1 told)
+  pattern_told (Some x) told None m = absurd m
+  pattern_told None told r m = rw m (pattern_stuck told)

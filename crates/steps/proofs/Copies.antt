@@ -1,30 +1,18 @@
--- Copies and splices in words: what was copied so far stands there, and behind the new part stands what stood behind the old one.
+-- Words given and spliced: behind the new part stands what stood behind the old one.
 use mathlib.Core.Path.{◌≡◌, sym, ap, ◌∙◌}
 use mathlib.Core.List.{List, ◌++◌}
 use Prim.Native.Nat.{ℕ, zero, suc, ◌+◌, ◌-◌, ◌≤◌, ◌<◌}
 use native.Mathlib.Omega.{arith}
-use lib.ListN.{length, get_or, take, drop, set, replicate, length-append, length-drop}
-use lib.Seq.{length-take-le, take-length, take-add, take-take, drop_at, paste, paste-suc, length-paste, take-paste}
+use lib.ListN.{length, take, drop, replicate, length-append, length-drop}
+use lib.Seq.{length-take-le, take-length, take-add, take-take, drop_at, paste, take-paste}
 use borrow.Author.Tests.{le-leb, lt-leb}
 use Rattle.term.specs.declared.answer.Answer.{Answer}
 use Rattle.term.specs.declared.answer.Answer.TheVariants as answer
-use Rattle.term.specs.declared.renumber.Passed.TheVariants.{Done, Stuck}
+use Rattle.std.specs.Prelude.{Some, None}
 use Rattle.term.specs.Part.{padded, part_end}
 use Rattle.term.proofs.Laws.{padded_fits, padded_short, part_short}
 use Rattle.steps.specs.Told.Area.{spliced_words, SpliceTold}
 use Rattle.steps.specs.Told.Operations.{given_answer}
-
--- ---- a copy
-pub copied_more : (d : List ℕ) (at : ℕ) (s : List ℕ) (j : ℕ) (to : List ℕ) → at + length s ≤ length d → j < length s → to ≡ paste d at s j → set to (at + j) (get_or s j 0) ≡ paste d at s (j + 1)
-copied_more d at s j to room l e =
-    let y : suc j ≡ j + 1 = omega arith in
-    ap (λ (l : List ℕ). set l (at + j) (get_or s j 0)) e ∙ paste-suc d at s j 0 (omega arith) l ∙ ap (paste d at s) y
-
-pub copied_long : (d : List ℕ) (at : ℕ) (s : List ℕ) (j : ℕ) (to : List ℕ) → at + length s ≤ length d → j ≤ length s → to ≡ paste d at s j → length to ≡ length d
-copied_long d at s j to room l e = ap length e ∙ length-paste d at s j (omega arith) l
-
-pub copied_all : (d : List ℕ) (at : ℕ) (s : List ℕ) (j : ℕ) (to : List ℕ) → j ≤ length s → length s ≤ j → to ≡ paste d at s j → to ≡ paste d at s (length s)
-copied_all d at s j to l m e = let y : j ≡ length s = omega arith in e ∙ ap (paste d at s) y
 
 -- ---- words given into a cleared slice
 zeros_behind : (room n : ℕ) → drop {A = ℕ} n (replicate room 0) ≡ replicate (room - n) 0
@@ -88,18 +76,11 @@ module _ (area : List ℕ) (size at : ℕ) (new : List ℕ) (n : ℕ) (long : le
       let a : length (take at ws) ≡ at = length-take-le at ws (omega (arith, ws_long)) in
       ap length spliced_is ∙ length-append (take at ws) (take n new ++ behind) ∙ omega (arith, a, both_long)
 
-  pub splice_over : 4096 - at < n + (size - (at + e)) → (done : List ℕ) → SpliceTold (take size area) at (take n new) done Stuck
+  pub splice_over : 4096 - at < n + (size - (at + e)) → (done : List ℕ) → SpliceTold (take size area) at (take n new) done None
   unfolding SpliceTold
   splice_over l done = rw spliced_long (omega arith)
 
   module _ (fits : n + (size - (at + e)) ≤ 4096 - at) where
-    -- what is copied has room
-    pub first_room : (k : ℕ) → k ≡ length (take (size - (at + e)) (drop (at + e) area)) → n + k ≤ length new
-    first_room k z = omega (arith, z, ap length (lent_part area (at + e) size end_low (omega arith)), behind_long)
-
-    pub second_room : (next : List ℕ) → length next ≡ length new → at + length (take (n + (size - (at + e))) next) ≤ length area
-    second_room next z = let k : length (take (n + (size - (at + e))) next) ≡ n + (size - (at + e)) = length-take-le (n + (size - (at + e))) next (omega (arith, z)) in omega (arith, k)
-
     module _ (next done : List ℕ)
         (moved : next ≡ paste new n (take (size - (at + e)) (drop (at + e) area)) (length (take (size - (at + e)) (drop (at + e) area))))
         (put : done ≡ paste area at (take (n + (size - (at + e))) next) (length (take (n + (size - (at + e))) next))) where
@@ -110,7 +91,7 @@ module _ (area : List ℕ) (size at : ℕ) (new : List ℕ) (n : ℕ) (long : le
           ap (take (n + (size - (at + e)))) m ∙ ap (λ (j : ℕ). take j (paste new n behind (length behind))) (sym k)
           ∙ take-paste new n behind (length behind) (omega arith) (omega arith) ∙ ap (λ (l : List ℕ). take n new ++ l) (take-length behind)
 
-      pub splice_done : SpliceTold (take size area) at (take n new) done (Done (at + (n + (size - (at + e)))))
+      pub splice_done : SpliceTold (take size area) at (take n new) done (Some (at + (n + (size - (at + e)))))
       unfolding SpliceTold
       splice_done =
           let both = take n new ++ behind in

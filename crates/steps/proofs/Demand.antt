@@ -7,7 +7,7 @@ use mathlib.Core.Option.{Option, none, some}
 use Prim.Native.Nat.{ℕ, ◌≤◌, ◌<◌}
 use native.Mathlib.Omega.{arith}
 use lib.ListN.{length, get_or}
-use Rattle.term.specs.declared.check.Checked.TheVariants.{Good}
+use Rattle.std.specs.Prelude.{Ok}
 use Rattle.term.specs.declared.answer.Answer.{Answer}
 use Rattle.term.specs.declared.answer.Answer.TheVariants.{Done, BudgetUsed, Over, CannotTake}
 use Rattle.term.specs.Word.{pick}
@@ -92,7 +92,7 @@ module _ (book : List ℕ) where
   Simplified budget t (Ended trace last a v) = Reaches trace t v × (length trace ≤ budget) × Rested budget (length trace) v a
 
 -- ---- a table that begins with an accepted book's tree, whatever follows it
-module _ (book : List ℕ) (accepted : check_book book ≡ Good) (table : List ℕ) (short : length table ≤ 16384) (lies : Lies table 0 (book_tree book)) where
+module _ (book : List ℕ) (accepted : check_book book ≡ Ok tt) (table : List ℕ) (short : length table ≤ 16384) (lies : Lies table 0 (book_tree book)) where
   abbrev best : Row → Option Fitting
   best p = lowest_front book 0 (get_or book 0 0) p
 

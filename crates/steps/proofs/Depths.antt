@@ -10,12 +10,9 @@ use lib.ListN.{length, get_or, set, length-set, length-replicate}
 use lib.Seq.{get_or-set_same, get_or-set_other}
 use borrow.Author.Tests.{eqb-true, eqb-false, eq-eqb, ne_eqb}
 use Rattle.term.specs.Word.{kind_of, pick}
-use Rattle.term.specs.Told.Walk.{inside_word}
-use Rattle.term.proofs.Laws.{inside_small}
 use Rattle.steps.specs.declared.under.Under.{Under}
-use Rattle.steps.specs.declared.under.Within.{Within}
 use Rattle.steps.specs.Told.Told.{deeper}
-use Rattle.steps.specs.Told.Under.{Around, at_root, deeper_by, lowered, entered, inside_right, inside_body, ids_from, ids_in}
+use Rattle.steps.specs.Told.Under.{Place, place, Around, at_root, deeper_by, lowered, entered, inside_right, ids_from, ids_in}
 
 pub length_ids : (depth : ℕ) (marks : List ℕ) (n : ℕ) → length (ids_from depth marks n) ≡ n
 unfolding ids_from
@@ -50,24 +47,24 @@ ids_at_lem depth marks (suc n) (suc i) h =
 pub around_root : (levels : ℕ) → Around (at_root levels)
 around_root levels = record { long = length-replicate {A = ℕ} 16 0; few = omega arith; low = λ j h. absurd (omega (arith, h)) }
 
-pub inside_abstraction_is : (u : Under) (w : ℕ) → kind_of w ≡ 1 → inside_right w u ≡ entered (lowered u)
+pub inside_abstraction_is : (u : Place) (w : ℕ) → kind_of w ≡ 1 → inside_right w u ≡ entered (lowered u)
 inside_abstraction_is u w k = rw (eq-eqb (kind_of w) 1 k)
 
-pub inside_other_is : (u : Under) (w : ℕ) → (kind_of w ≡ 1 → ⊥) → inside_right w u ≡ lowered u
+pub inside_other_is : (u : Place) (w : ℕ) → (kind_of w ≡ 1 → ⊥) → inside_right w u ≡ lowered u
 inside_other_is u w k = rw (ne_eqb (kind_of w) 1 k)
 
 -- how many levels may nest is of no account there
-pub around_lowered : (u : Under) → Around u → Around (lowered u)
+pub around_lowered : (u : Place) → Around u → Around (lowered u)
 around_lowered u a = record { long = a.long; few = a.few; low = a.low }
 
-pub inside_levels : (u : Under) (w : ℕ) → (inside_right w u).levels ≡ u.levels - 1
+pub inside_levels : (u : Place) (w : ℕ) → (inside_right w u).levels ≡ u.levels - 1
 inside_levels u w = go (eqb (kind_of w) 1)
   where
     go : (b : Bool) → (pick b (entered (lowered u)) (lowered u)).levels ≡ u.levels - 1
     go true = refl
     go false = refl
 
-module _ (u : Under) (a : Around u) where
+module _ (u : Place) (a : Around u) where
   pub around_deeper : (e : ℕ) → Around (deeper_by e u)
   around_deeper e = record { long = a.long; few = a.few; low = λ j h. let l = a.low j h in omega (arith, l) }
 
@@ -109,54 +106,8 @@ module _ (u : Under) (a : Around u) where
       let e : u.own - (i - 1) - 1 ≡ u.own - i = omega (arith, h, l) in
       sym (ids_at_lem u.depth u.marks u.own (i - 1) (omega (arith, h, l)) ∙ ap (λ (j : ℕ). u.depth - get_or u.marks j 0) e)
 
-  pub own_low : (i : ℕ) → 1 ≤ i → i ≤ u.own → get_or u.marks (u.own - i) 0 ≤ u.depth
-  own_low i h l = let m = a.low (u.own - i) (omega (arith, h, l)) in omega (arith, m)
+pub around : (u : Under) → length u.marks ≡ 16 → Around (place u)
+around u l = record { long = l; few = u.few; low = u.low }
 
-  pub inside_low : (v : Under) (w : ℕ) → v ≡ inside_right w u → u.depth + u.levels ≤ 64 → (u.levels ≡ 0 → ⊥) → v.depth + v.levels ≤ 64
-  inside_low v w q h z =
-      let d = inside_depth w in
-      let e : v.depth ≡ (inside_right w u).depth = ap (λ (x : Under). x.depth) q in
-      let f : v.levels ≡ u.levels - 1 = ap (λ (x : Under). x.levels) q ∙ inside_levels u w in
-      omega (arith, d, e, f, h, z)
-
-pub inside_around : (u : Under) → Around u → (v : Under) (w : ℕ) → v ≡ inside_right w u → u.own < 16 → Around v
-inside_around u a v w q m = rw q (go (eqb (kind_of w) 1))
-  where
-    go : (b : Bool) → Around (pick b (entered (lowered u)) (lowered u))
-    go true = around_entered (lowered u) (around_lowered u a) m
-    go false = around_lowered u a
-
--- inside a word of a body
-module _ (b v : Within) (w : ℕ) (q : v ≡ inside_body w b) where
-  pub body_at_lem : v.at ≡ b.at
-  body_at_lem = ap (λ (x : Within). x.at) q
-
-  pub body_levels : v.under.levels ≡ b.under.levels - 1
-  body_levels = ap (λ (x : Within). x.under.levels) q
-
-  pub body_low : b.under.depth + b.e + b.under.levels ≤ 64 → (b.under.levels ≡ 0 → ⊥) → v.under.depth + v.e + v.under.levels ≤ 64
-  body_low h z =
-      let d : v.under.depth ≡ b.under.depth = ap (λ (x : Within). x.under.depth) q in
-      let e : v.e ≡ inside_word w b.e = ap (λ (x : Within). x.e) q in
-      omega (arith, d, e, body_levels, inside_small w b.e, h, z)
-
-  pub body_around : Around b.under → Around v.under
-  body_around a = rw q (around_lowered b.under a)
-
-pub deeper_low : (u v : Under) (e : ℕ) → v ≡ deeper_by e u → u.depth + e + u.levels ≤ 64 → v.depth + v.levels ≤ 64
-deeper_low u v e q h =
-    let d : v.depth ≡ u.depth + e = ap (λ (x : Under). x.depth) q in
-    let f : v.levels ≡ u.levels = ap (λ (x : Under). x.levels) q in
-    omega (arith, d, f, h)
-
-pub deeper_around : (u v : Under) (e : ℕ) → v ≡ deeper_by e u → Around u → Around v
-deeper_around u v e q a = rw q (around_deeper u a e)
-
-pub root_low : (v : Under) → v ≡ at_root 64 → v.depth + v.levels ≤ 64
-root_low v q =
-    let d : v.depth ≡ 0 = ap (λ (x : Under). x.depth) q in
-    let f : v.levels ≡ 64 = ap (λ (x : Under). x.levels) q in
-    omega (arith, d, f)
-
-pub root_around : (v : Under) → v ≡ at_root 64 → Around v
-root_around v q = rw q (around_root 64)
+pub levels_at : (u : Under) (p : Place) → place u ≡ p → u.levels ≡ p.levels
+levels_at u p q = ap (λ (x : Place). x.levels) q

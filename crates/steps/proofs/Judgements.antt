@@ -7,7 +7,7 @@ use Prim.Native.Nat.{ℕ, zero, suc, ◌+◌, ◌≤◌, ◌<◌}
 use native.Mathlib.Omega.{arith}
 use lib.Dec.{leb}
 use lib.ListN.{length, replicate}
-use Rattle.term.specs.declared.check.Checked.TheVariants.{Good, Bad}
+use Rattle.std.specs.Prelude.{Ok, Err}
 use Rattle.term.specs.declared.answer.Answer.{Answer}
 use Rattle.term.specs.declared.answer.Answer.TheVariants.{BudgetUsed, BadTerm, BadBook, Short, Damaged, Over, CannotTake}
 use Rattle.term.specs.Word.{pick}
@@ -49,42 +49,42 @@ module _ (book : List ℕ) (t : Row) (f : Fitting) (rule : Rule) (e : rule_at bo
 
 -- ---- rewriting at the root
 module _ (book table ws : List ℕ) where
-  pub rewrite_bad_book : (at : ℕ) → check_book book ≡ Bad at → rewrite_root book table ws ≡ refused (BadBook at)
+  pub rewrite_bad_book : (at : ℕ) → check_book book ≡ Err at → rewrite_root book table ws ≡ refused (BadBook at)
   unfolding rewrite_root
   rewrite_bad_book at e = rw (bad_refused book at e)
 
-  pub rewrite_bad_term : check_book book ≡ Good → (at : ℕ) → check term_limits ws ≡ Bad at → rewrite_root book table ws ≡ refused (BadTerm at)
+  pub rewrite_bad_term : check_book book ≡ Ok tt → (at : ℕ) → check term_limits ws ≡ Err at → rewrite_root book table ws ≡ refused (BadTerm at)
   unfolding rewrite_root
   rewrite_bad_term g at e = rw (good_accepted book g, e)
 
-  pub rewrite_walked : check_book book ≡ Good → check term_limits ws ≡ Good → rewrite_root book table ws ≡ walked_root book (tree_of ws) (walk (book_fits book) table (tree_of ws))
+  pub rewrite_walked : check_book book ≡ Ok tt → check term_limits ws ≡ Ok tt → rewrite_root book table ws ≡ walked_root book (tree_of ws) (walk (book_fits book) table (tree_of ws))
   unfolding rewrite_root
   rewrite_walked g e = rw (good_accepted book g, e)
 
   -- the visits of its one walk, none before it
-  pub root_visits_bad_book : (at : ℕ) → check_book book ≡ Bad at → root_visits book table ws ≡ 0
+  pub root_visits_bad_book : (at : ℕ) → check_book book ≡ Err at → root_visits book table ws ≡ 0
   unfolding root_visits
   root_visits_bad_book at e = rw (bad_refused book at e)
 
-  pub root_visits_bad_term : check_book book ≡ Good → (at : ℕ) → check term_limits ws ≡ Bad at → root_visits book table ws ≡ 0
+  pub root_visits_bad_term : check_book book ≡ Ok tt → (at : ℕ) → check term_limits ws ≡ Err at → root_visits book table ws ≡ 0
   unfolding root_visits
   root_visits_bad_term g at e = rw (good_accepted book g, e)
 
-  pub root_visits_lem : check_book book ≡ Good → check term_limits ws ≡ Good → root_visits book table ws ≡ visits table (tree_of ws)
+  pub root_visits_lem : check_book book ≡ Ok tt → check term_limits ws ≡ Ok tt → root_visits book table ws ≡ visits table (tree_of ws)
   unfolding root_visits
   root_visits_lem g e = rw (good_accepted book g, e)
 
   -- ---- simplifying
   module _ (budget : ℕ) where
-    pub simplify_bad_book : (at : ℕ) → check_book book ≡ Bad at → simplify book table budget ws ≡ Stopped [] 0 (BadBook at)
+    pub simplify_bad_book : (at : ℕ) → check_book book ≡ Err at → simplify book table budget ws ≡ Stopped [] 0 (BadBook at)
     unfolding simplify
     simplify_bad_book at e = rw (bad_refused book at e)
 
-    pub simplify_bad_term : check_book book ≡ Good → (at : ℕ) → check term_limits ws ≡ Bad at → simplify book table budget ws ≡ Stopped [] 0 (BadTerm at)
+    pub simplify_bad_term : check_book book ≡ Ok tt → (at : ℕ) → check term_limits ws ≡ Err at → simplify book table budget ws ≡ Stopped [] 0 (BadTerm at)
     unfolding simplify
     simplify_bad_term g at e = rw (good_accepted book g, e)
 
-    pub simplify_runs : check_book book ≡ Good → check term_limits ws ≡ Good → simplify book table budget ws ≡ simplify_by book table budget (tree_of ws)
+    pub simplify_runs : check_book book ≡ Ok tt → check term_limits ws ≡ Ok tt → simplify book table budget ws ≡ simplify_by book table budget (tree_of ws)
     unfolding simplify
     simplify_runs g e = rw (good_accepted book g, e)
 

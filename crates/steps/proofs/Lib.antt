@@ -27,6 +27,7 @@ mod Settled
 mod Computed
 mod Copies
 mod Asked
+mod Refusals
 mod Rewrites
 mod Roots
 mod Seeks

@@ -7,7 +7,7 @@ use native.Mathlib.Omega.{arith}
 use lib.Dec.{ltb}
 use lib.ListN.{length}
 use borrow.Author.Tests.{lt-ltb, le-ltb}
-use Rattle.term.specs.declared.check.Checked.TheVariants.{Good}
+use Rattle.std.specs.Prelude.{Ok}
 use Rattle.term.specs.Word.{Head, pick}
 use Rattle.term.specs.Row.{Row, nothing, node, width, words, nesting, ranks, Formed, ◌⧺◌}
 use Rattle.term.specs.Check.{check, term_limits}
@@ -112,13 +112,13 @@ module _ (t : Row) (i : IsBody t) (at : ℕ) (l : at < length (words t)) (u : Ro
       (s.new n.0, omega (arith, s.least, n.1), n.2)
 
 -- ---- where its ids are within the limit, checking its words judges the rest
-pub check_within : (v : Row) → Formed v → width v ≡ 1 → check term_limits (words v) ≡ Good → within_limits v ≡ true
+pub check_within : (v : Row) → Formed v → width v ≡ 1 → check term_limits (words v) ≡ Ok tt → within_limits v ≡ true
 check_within v f one g =
     let i = good_tree term_limits (omega arith) (words v) g in
     let e : v ≡ i.tree = (words_unique v i.tree [] [] f i.formed (one ∙ sym i.one) (ap (λ (ws : List ℕ). ws ++ []) i.same)).0 in
     within_limits_lem v f (rw (sym e) at i.low) i.short
 
-pub within_check : (v : Row) → Shaped v → width v ≡ 1 → ranks v ≤ 2 → within_limits v ≡ true → check term_limits (words v) ≡ Good
+pub within_check : (v : Row) → Shaped v → width v ≡ 1 → ranks v ≤ 2 → within_limits v ≡ true → check term_limits (words v) ≡ Ok tt
 within_check v s one few e =
     let n = limits_within v s e in
     tree_good term_limits (words v) (record { tree = v; one = one; formed = n.0; few = few; low = n.1; short = n.2; same = refl })

@@ -4,7 +4,7 @@ use mathlib.Core.List.{List, [], ◌∷◌}
 use Prim.Native.Nat.{ℕ, zero, suc, ◌+◌}
 use native.Mathlib.Omega.{arith}
 use lib.ListN.{length}
-use Rattle.term.specs.declared.check.Checked.TheVariants.{Good}
+use Rattle.std.specs.Prelude.{Ok}
 use Rattle.term.specs.declared.answer.Answer.{Answer}
 use Rattle.term.specs.declared.answer.Answer.TheVariants.{Done, BudgetUsed}
 use Rattle.term.specs.Row.{Row, words}
@@ -69,7 +69,7 @@ module _ (book table : List ℕ) where
       go (Refused a) q ih = never (cc)
 
 -- ---- over words: an accepted book, any tree, any term
-module _ (book : List ℕ) (accepted : check_book book ≡ Good) (table : List ℕ) where
+module _ (book : List ℕ) (accepted : check_book book ≡ Ok tt) (table : List ℕ) where
   simplify_is : (budget : ℕ) (ws : List ℕ) (i : IsTerm ws) → simplify book table budget ws ≡ simplify_by book table budget i.tree
   unfolding simplify
   simplify_is budget ws i = rw (good_accepted book accepted, tree_good term_limits ws i, tree_of_lem term_limits ws i)

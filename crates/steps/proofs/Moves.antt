@@ -1,15 +1,13 @@
 -- A step in the work area is a step of the definition: the words spliced are those of the term with the part replaced, and checking them judges its limits.
-use mathlib.Core.Path.{◌≡◌, refl, sym, ap, ap₂, ◌∙◌}
+use mathlib.Core.Path.{◌≡◌, refl, sym, ap, ◌∙◌}
 use mathlib.Core.Bool.{Bool, true, false}
 use mathlib.Core.List.{List, ◌++◌}
 use mathlib.Core.Option.{Option, none, some}
 use Prim.Native.Nat.{ℕ, ◌+◌, ◌≤◌, ◌<◌}
 use native.Mathlib.Omega.{arith}
 use lib.ListN.{length, take, drop, length-append}
-use Rattle.term.specs.declared.check.Checked.TheVariants.{Good, Bad}
 use Rattle.term.specs.declared.answer.Answer.{Answer}
 use Rattle.term.specs.declared.answer.Answer.TheVariants as answer
-use Rattle.term.specs.declared.renumber.Passed.TheVariants.{Done, Stuck}
 use Rattle.term.specs.Row.{Row, words}
 use Rattle.term.specs.Check.{IsTerm, check, term_limits}
 use Rattle.term.specs.Part.{part_end}
@@ -24,9 +22,9 @@ use Rattle.steps.specs.Rewrite.{many_aside, rewritten}
 use Rattle.steps.specs.Offset.{part_at, spliced}
 use Rattle.steps.specs.Told.Area.{spliced_words, SpliceTold}
 use Rattle.steps.specs.Step.{Sought, Nowhere, FoundAt, Broken, lowest_offset, whole_within, step_taken, step_found, step}
-use Rattle.steps.specs.declared.rules.Rewrote.TheVariants as rewrote
-use Rattle.steps.specs.declared.simplify.Moved.{Moved}
-use Rattle.steps.specs.declared.simplify.Moved.TheVariants as moved
+use Rattle.std.specs.Prelude as prelude
+use Rattle.std.specs.Prelude.{Some, None, Result, Ok, Err, MatchResult}
+use Rattle.std.specs.Result.{IsOkAnd, is_err}
 use Rattle.steps.specs.Told.Operations.{TakenTold, LowestTold, ReplaceTold, MoveTold}
 use Rattle.steps.proofs.Shaped.{formed_shaped, limits_within}
 use Rattle.steps.proofs.Offsets.{spliced_words_lem, part_end_lem, splice_keeps}
@@ -39,25 +37,29 @@ module _ (ws : List ℕ) (at : ℕ) (new area : List ℕ) where
   abbrev whole : List ℕ
   whole = spliced_words ws at new
 
-  pub replace_long : SpliceTold ws at new area Stuck → ReplaceTold (spliced_words ws at new) area (moved.Ends answer.Over 0)
+  pub replace_long : SpliceTold ws at new area None → ReplaceTold (spliced_words ws at new) area (Err answer.Over)
   unfolding SpliceTold
-  replace_long l = (refl, refl, λ g. let i = good_tree term_limits (omega arith) whole g in omega (arith, l, i.short))
+  replace_long l = (refl, λ g. let i = good_tree term_limits (omega arith) whole g in omega (arith, l, i.short))
 
-  module _ (size : ℕ) (s : SpliceTold ws at new area (Done size)) where
+  module _ (size : ℕ) (s : SpliceTold ws at new area (Some size)) where
     pub replace_few : size ≤ 4096
     unfolding SpliceTold
     replace_few = s.1
 
-    pub replace_bad : (bad : ℕ) → check term_limits (take size area) ≡ Bad bad → ReplaceTold (spliced_words ws at new) area (moved.Ends answer.Over 0)
+    pub replace_bad : is_err (check term_limits (take size area)) ≡ true → ReplaceTold (spliced_words ws at new) area (Err answer.Over)
     unfolding SpliceTold
-    replace_bad bad e = (refl, refl, λ g. let z : check term_limits whole ≡ Bad bad = sym (ap (check term_limits) s.2) ∙ e in never (cc))
+    replace_bad e = (refl, λ g. let z : check term_limits (take size area) ≡ Ok tt = ap (check term_limits) s.2 ∙ g in let no = rw z at e in never (cc))
 
-    pub replace_good : check term_limits (take size area) ≡ Good → ReplaceTold (spliced_words ws at new) area (moved.To size)
+    pub replace_good : is_err (check term_limits (take size area)) ≡ false → ReplaceTold (spliced_words ws at new) area (Ok size)
     unfolding SpliceTold
-    replace_good e = (sym (ap (check term_limits) s.2) ∙ e, s.1, s.2)
+    replace_good e = (good (check term_limits whole) (rw s.2 at e), s.1, s.2)
+      where
+        good : (c : Result (Unit {0}) ℕ) → is_err c ≡ false → c ≡ Ok tt
+        good (Ok _) e = refl
+        good (Err at) e = never (cc)
 
 -- ---- the term with the part replaced
-module _ (book : List ℕ) (accepted : check_book book ≡ Good) (table ws : List ℕ) (i : IsTerm ws) where
+module _ (book : List ℕ) (accepted : check_book book ≡ Ok tt) (table ws : List ℕ) (i : IsTerm ws) where
   abbrev t : Row
   t = tree_of ws
 
@@ -82,12 +84,12 @@ module _ (book : List ℕ) (accepted : check_book book ≡ Good) (table ws : Lis
         let s = rw (tree_words_lem ws i) at (spliced_words_lem t at inside u) in
         rw e (sym s)
 
-    new_within : check term_limits (words v) ≡ Good → within_limits u ≡ true → within_limits v ≡ true
+    new_within : check term_limits (words v) ≡ Ok tt → within_limits u ≡ true → within_limits v ≡ true
     new_within g e =
         let n = limits_within u writes.shaped e in
         check_within v ((splice_nests t at inside u).formed (tree_body ws i).within.formed n.0 writes.one) ((splice_keeps t at inside u).wide writes.one ∙ (tree_body ws i).one) g
 
-    new_over : (check term_limits (words v) ≡ Good → ⊥) → within_limits v ≡ false
+    new_over : (check term_limits (words v) ≡ Ok tt → ⊥) → within_limits v ≡ false
     new_over n = go (within_limits v) refl
       where
         go : (b : Bool) → within_limits v ≡ b → within_limits v ≡ false
@@ -114,16 +116,16 @@ module _ (book : List ℕ) (accepted : check_book book ≡ Good) (table ws : Lis
     pub found_inside : at < length ws
     found_inside = rw (tree_words_lem ws i) at inside
 
-    pub found_to : (n : ℕ) (new area : List ℕ) → within_limits u ≡ true → take n new ≡ words u → (size : ℕ) → ReplaceTold (spliced_words ws at (take n new)) area (moved.To size)
+    pub found_to : (n : ℕ) (new area : List ℕ) → within_limits u ≡ true → take n new ≡ words u → (size : ℕ) → ReplaceTold (spliced_words ws at (take n new)) area (Ok size)
         → (within_limits v ≡ true) × (size ≤ 4096) × (take size area ≡ words v)
     found_to n new area e w size r =
         let q = rw (w, words_are) at r in
         (new_within q.0 e, q.1, q.2)
 
-    pub found_refused : (n : ℕ) (new area : List ℕ) → take n new ≡ words u → (a : Answer) (size : ℕ) → ReplaceTold (spliced_words ws at (take n new)) area (moved.Ends a size) → (within_limits v ≡ false) × (a ≡ answer.Over) × (size ≡ 0)
-    found_refused n new area w a size r =
+    pub found_refused : (n : ℕ) (new area : List ℕ) → take n new ≡ words u → (a : Answer) → ReplaceTold (spliced_words ws at (take n new)) area (Err a) → (within_limits v ≡ false) × (a ≡ answer.Over)
+    found_refused n new area w a r =
         let q = rw (w, words_are) at r in
-        (new_over q.2, q.0, q.1)
+        (new_over q.1, q.0)
 
   -- ---- a step, by what was sought
   abbrev Sees : Sought → Type 0
@@ -135,95 +137,65 @@ module _ (book : List ℕ) (accepted : check_book book ≡ Good) (table ws : Lis
   abbrev many : ℕ → Fitting → ℕ
   many at f = many_aside book (part_at (tree_of ws) at) f
 
-  module _ (new before area : List ℕ) (size at : ℕ) where
-    pub move_rests : LowestTold book (tree_of ws) (lowest_offset book table (tree_of ws)) new at rewrote.None → area ≡ before → MoveTold (step book table (tree_of ws)) size before area (moved.Ends answer.Done size)
+  module _ (new before area : List ℕ) where
+    pub move_rests : LowestTold book (tree_of ws) (lowest_offset book table (tree_of ws)) new None → area ≡ before → MoveTold (step book table (tree_of ws)) before area (Ok None)
     unfolding step LowestTold MoveTold
     move_rests l e = go sought l
       where
-        taken : (n : ℕ) (o : Option Row) → TakenTold n o new rewrote.None → ⊥
-        taken n none l = let z : rewrote.None ≡ rewrote.CannotTake n = l in never (cc)
-        taken n (some u) l = l
-
-        go : (s : Sought) → LowestTold book (tree_of ws) s new at rewrote.None → MoveTold (step_found book t s) size before area (moved.Ends answer.Done size)
+        go : (s : Sought) → LowestTold book (tree_of ws) s new None → MoveTold (step_found book t s) before area (Ok None)
         go Nowhere l = (refl, e)
-        go (FoundAt a f) l = absurd (taken (many a f) (made_of a f) l.1)
-        go (Broken address) l = let z : rewrote.None ≡ rewrote.Damaged address = l in never (cc)
+        go (FoundAt a f) l = absurd l
+        go (Broken address) l = absurd l
 
-    pub move_broken : (address : ℕ) → LowestTold book (tree_of ws) (lowest_offset book table (tree_of ws)) new at (rewrote.Damaged address)
-        → MoveTold (step book table (tree_of ws)) size before area (moved.Ends (answer.Damaged address) 0)
-    unfolding step LowestTold MoveTold
-    move_broken address l = go sought l
-      where
-        taken : (n : ℕ) (o : Option Row) → TakenTold n o new (rewrote.Damaged address) → ⊥
-        taken n none l = let z : rewrote.Damaged address ≡ rewrote.CannotTake n = l in never (cc)
-        taken n (some u) l = l
-
-        go : (s : Sought) → LowestTold book (tree_of ws) s new at (rewrote.Damaged address) → MoveTold (step_found book t s) size before area (moved.Ends (answer.Damaged address) 0)
-        go Nowhere l = let z : rewrote.Damaged address ≡ rewrote.None = l in never (cc)
-        go (FoundAt a f) l = absurd (taken (many a f) (made_of a f) l.1)
-        go (Broken b) l = let z : rewrote.Damaged address ≡ rewrote.Damaged b = l in let y : address ≡ b = cc in ap (λ (n : ℕ). moved.Ends (answer.Damaged n) 0) y
-
-    pub move_cannot : (n : ℕ) → LowestTold book (tree_of ws) (lowest_offset book table (tree_of ws)) new at (rewrote.CannotTake n)
-        → MoveTold (step book table (tree_of ws)) size before area (moved.Ends (answer.CannotTake n) 0)
-    unfolding step LowestTold MoveTold
-    move_cannot n l = go sought l
-      where
-        taken : (a rule m : ℕ) (o : Option Row) → TakenTold m o new (rewrote.CannotTake n) → MoveTold (step_taken t a rule m o) size before area (moved.Ends (answer.CannotTake n) 0)
-        taken a rule m none l = let z : rewrote.CannotTake n ≡ rewrote.CannotTake m = l in let y : n ≡ m = cc in ap (λ (k : ℕ). moved.Ends (answer.CannotTake k) 0) y
-        taken a rule m (some u) l = absurd l
-
-        go : (s : Sought) → LowestTold book (tree_of ws) s new at (rewrote.CannotTake n) → MoveTold (step_found book t s) size before area (moved.Ends (answer.CannotTake n) 0)
-        go Nowhere l = let z : rewrote.CannotTake n ≡ rewrote.None = l in never (cc)
-        go (FoundAt a f) l = taken a f.number (many a f) (made_of a f) l.1
-        go (Broken b) l = let z : rewrote.CannotTake n ≡ rewrote.Damaged b = l in never (cc)
-
-    pub move_over : LowestTold book (tree_of ws) (lowest_offset book table (tree_of ws)) new at rewrote.Over → MoveTold (step book table (tree_of ws)) size before area (moved.Ends answer.Over 0)
+    pub move_refused : (at : ℕ) (b : Answer) → LowestTold book (tree_of ws) (lowest_offset book table (tree_of ws)) new (Some (at, Err b)) → MoveTold (step book table (tree_of ws)) before area (Err b)
     unfolding step LowestTold MoveTold whole_within
-    move_over l = go sought (lowest_offset_is book table t) l
+    move_refused at b l = go sought (lowest_offset_is book table t) l
       where
-        taken : (a : ℕ) (f : Fitting) → Sees (FoundAt a f) → (o : Option Row) → made_of a f ≡ o → TakenTold (many a f) o new rewrote.Over
-            → MoveTold (step_taken t a f.number (many a f) o) size before area (moved.Ends answer.Over 0)
-        taken a f k none q l = let z : rewrote.Over ≡ rewrote.CannotTake (many a f) = l in never (cc)
-        taken a f k (some u) q l = rw (found_over a f k u q l) refl
+        taken : (a : ℕ) (f : Fitting) → Sees (FoundAt a f) → (o : Option Row) → made_of a f ≡ o → TakenTold (many a f) o new (Err b) → MoveTold (step_taken t a f.number (many a f) o) before area (Err b)
+        taken a f k none q l = let y : b ≡ answer.CannotTake (many a f) = cc in ap (λ (a : Answer). Err a) y
+        taken a f k (some u) q l = rw (found_over a f k u q l.1, l.0) refl
 
-        go : (s : Sought) → Sees s → LowestTold book (tree_of ws) s new at rewrote.Over → MoveTold (step_found book t s) size before area (moved.Ends answer.Over 0)
-        go Nowhere k l = let z : rewrote.Over ≡ rewrote.None = l in never (cc)
+        go : (s : Sought) → Sees s → LowestTold book (tree_of ws) s new (Some (at, Err b)) → MoveTold (step_found book t s) before area (Err b)
+        go Nowhere k l = never (cc)
         go (FoundAt a f) k l = taken a f k (made_of a f) refl l.1
-        go (Broken b) k l = let z : rewrote.Over ≡ rewrote.Damaged b = l in never (cc)
+        go (Broken address) k l = let y : b ≡ answer.Damaged address = cc in ap (λ (a : Answer). Err a) y
 
-    module _ (n : ℕ) (l : LowestTold book (tree_of ws) (lowest_offset book table (tree_of ws)) new at (rewrote.Wrote n)) where
+    module _ (at n : ℕ) (l : LowestTold book (tree_of ws) (lowest_offset book table (tree_of ws)) new (Some (at, Ok n))) where
       pub move_inside : (at < length ws) × (n ≤ 4096)
       unfolding LowestTold
       move_inside = go sought (lowest_offset_is book table t) l
         where
-          taken : (a : ℕ) (f : Fitting) → Sees (FoundAt a f) → at ≡ a → (o : Option Row) → made_of a f ≡ o → TakenTold (many a f) o new (rewrote.Wrote n) → (at < length ws) × (n ≤ 4096)
-          taken a f k e none q l = let z : rewrote.Wrote n ≡ rewrote.CannotTake (many a f) = l in never (cc)
+          taken : (a : ℕ) (f : Fitting) → Sees (FoundAt a f) → at ≡ a → (o : Option Row) → made_of a f ≡ o → TakenTold (many a f) o new (Ok n) → (at < length ws) × (n ≤ 4096)
+          taken a f k e none q l = never (cc)
           taken a f k e (some u) q l = (rw e (found_inside a f k u q), l.2)
 
-          go : (s : Sought) → Sees s → LowestTold book (tree_of ws) s new at (rewrote.Wrote n) → (at < length ws) × (n ≤ 4096)
-          go Nowhere k l = let z : rewrote.Wrote n ≡ rewrote.None = l in never (cc)
+          go : (s : Sought) → Sees s → LowestTold book (tree_of ws) s new (Some (at, Ok n)) → (at < length ws) × (n ≤ 4096)
+          go Nowhere k l = never (cc)
           go (FoundAt a f) k l = taken a f k l.0 (made_of a f) refl l.1
-          go (Broken b) k l = let z : rewrote.Wrote n ≡ rewrote.Damaged b = l in never (cc)
+          go (Broken b) k l = never (cc)
 
-      pub move_replaced : (r : Moved) → ReplaceTold (spliced_words ws at (take n new)) area r → MoveTold (step book table (tree_of ws)) size before area r
+      -- what replacing the part comes to is the step's
+      pub move_replaced : (r : Result ℕ Answer) → ReplaceTold (spliced_words ws at (take n new)) area r
+          → (m : Result (prelude.Option ℕ) Answer) → MatchResult r (λ size. IsOkAnd m (λ k. k ≡ Some size)) (λ a. m ≡ Err a) → MoveTold (step book table (tree_of ws)) before area m
       unfolding step LowestTold MoveTold whole_within
-      move_replaced r p = go sought (lowest_offset_is book table t) l
+      move_replaced r p m moved = go sought (lowest_offset_is book table t) l
         where
-          put : (a : ℕ) (f : Fitting) → Sees (FoundAt a f) → at ≡ a → (u : Row) → made_of a f ≡ some u → TakenTold (many a f) (some u) new (rewrote.Wrote n)
-              → (r : Moved) → ReplaceTold (spliced_words ws at (take n new)) area r → MoveTold (step_taken t a f.number (many a f) (some u)) size before area r
-          put a f k e u q l (moved.To m) p =
-              let x = found_to a f k u q n new area l.0 l.3 m (rw e at p) in
-              rw x.0 (m, refl, x.1, x.2)
-          put a f k e u q l (moved.Ends b m) p =
-              let x = found_refused a f k u q n new area l.3 b m (rw e at p) in
-              rw x.0 (ap₂ moved.Ends x.1 x.2)
+          put : (a : ℕ) (f : Fitting) → Sees (FoundAt a f) → at ≡ a → (u : Row) → made_of a f ≡ some u → TakenTold (many a f) (some u) new (Ok n)
+              → (r : Result ℕ Answer) → ReplaceTold (spliced_words ws at (take n new)) area r
+              → (m : Result (prelude.Option ℕ) Answer) → MatchResult r (λ size. IsOkAnd m (λ k. k ≡ Some size)) (λ a. m ≡ Err a) → MoveTold (step_taken t a f.number (many a f) (some u)) before area m
+          put a f k e u q l (Ok size) p (Ok to) moved =
+              let x = found_to a f k u q n new area l.0 l.3 size (rw e at p) in
+              rw (x.0, moved) (size, refl, x.1, x.2)
+          put a f k e u q l (Ok size) p (Err b) moved = absurd moved
+          put a f k e u q l (Err b) p m moved =
+              let x = found_refused a f k u q n new area l.3 b (rw e at p) in
+              rw (x.0, moved, x.1) refl
 
-          taken : (a : ℕ) (f : Fitting) → Sees (FoundAt a f) → at ≡ a → (o : Option Row) → made_of a f ≡ o → TakenTold (many a f) o new (rewrote.Wrote n)
-              → MoveTold (step_taken t a f.number (many a f) o) size before area r
-          taken a f k e none q l = let z : rewrote.Wrote n ≡ rewrote.CannotTake (many a f) = l in never (cc)
-          taken a f k e (some u) q l = put a f k e u q l r p
+          taken : (a : ℕ) (f : Fitting) → Sees (FoundAt a f) → at ≡ a → (o : Option Row) → made_of a f ≡ o → TakenTold (many a f) o new (Ok n) → MoveTold (step_taken t a f.number (many a f) o) before area m
+          taken a f k e none q l = never (cc)
+          taken a f k e (some u) q l = put a f k e u q l r p m moved
 
-          go : (s : Sought) → Sees s → LowestTold book (tree_of ws) s new at (rewrote.Wrote n) → MoveTold (step_found book t s) size before area r
-          go Nowhere k l = let z : rewrote.Wrote n ≡ rewrote.None = l in never (cc)
+          go : (s : Sought) → Sees s → LowestTold book (tree_of ws) s new (Some (at, Ok n)) → MoveTold (step_found book t s) before area m
+          go Nowhere k l = never (cc)
           go (FoundAt a f) k l = taken a f k l.0 (made_of a f) refl l.1
-          go (Broken b) k l = let z : rewrote.Wrote n ≡ rewrote.Damaged b = l in never (cc)
+          go (Broken b) k l = never (cc)

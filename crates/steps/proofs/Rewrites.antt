@@ -7,12 +7,10 @@ use Prim.Native.Nat.{ℕ, zero, suc, ◌+◌, ◌-◌, ◌≤◌, ◌<◌}
 use native.Mathlib.Omega.{arith}
 use lib.ListN.{length, get_or, take, drop, replicate, length-append, length-drop, length-replicate, replicate-append-replicate}
 use lib.Seq.{length-take-le, get_or-take, drop-cons, take-append_seam, drop-append_seam, drop-append-add}
-use Rattle.term.specs.declared.check.Checked.TheVariants.{Good}
 use Rattle.term.specs.Word.{symbol, abstraction, variable, pattern, count_of}
 use Rattle.term.specs.Row.{Row, nothing, node, words, nesting, Formed}
 use Rattle.term.proofs.Laws.{never, zero_at, words_node, count_word_lem, formed_node}
 use Rattle.book.specs.declared.book.Sides.{Sides}
-use Rattle.book.specs.declared.book.Found.TheVariants as sides
 use Rattle.book.specs.Rule.{root_symbol, side_limits}
 use Rattle.book.specs.Book.{Rule, check_book, rule_at}
 use Rattle.book.specs.Told.Found.{sides_at}
@@ -24,7 +22,6 @@ use Rattle.fit.specs.Lowest.{Fitting}
 use Rattle.fit.specs.Front.{root_arguments}
 use Rattle.fit.specs.Build.{start_of, words_at}
 use Rattle.fit.proofs.Laws.{tree_of_lem, left_in_lem, left_of_symbol, root_arguments_lem, bodies_none, bodies_more, lengths_none, lengths_more, start_none, start_more, words_at_are}
-use Rattle.walk.specs.declared.with_book.BookMatch.TheVariants as found
 use Rattle.tree.specs.Find.{root_count}
 use Rattle.walk.specs.Walk.{Walked, RuleFits, book_fits}
 use Rattle.walk.specs.Told.State.{part_from, Parted}
@@ -32,8 +29,9 @@ use Rattle.walk.specs.Told.WithBook.{book_walk, BookWalked}
 use Rattle.walk.proofs.Laws.{FoundSound, walk_sound, fits_rule, parted_body, walked_none, walked_damaged, walked_rule_lem}
 use Rattle.steps.specs.Rewrite.{many_aside, rewritten}
 use Rattle.steps.specs.Told.RightWalk.{BodiesStand}
-use Rattle.steps.specs.declared.rules.Rewrote.{Rewrote}
-use Rattle.steps.specs.declared.rules.Rewrote.TheVariants as rewrote
+use Rattle.std.specs.Prelude.{Some, None, Result, Err, Ok}
+use Rattle.term.specs.declared.answer.Answer.{Answer}
+use Rattle.term.specs.declared.answer.Answer.TheVariants as answer
 use Rattle.steps.specs.Told.Operations.{Cleared, TakenTold, FrontWritten, RuleWritten, RewriteTold}
 use Rattle.steps.proofs.RightRows.{parameters_of, accepted_right}
 use Rattle.steps.proofs.Shaped.{some_long}
@@ -89,9 +87,6 @@ module _ (b : ℕ → Row) (n : ℕ) (zs os : List ℕ) where
       sym (words_at_are (body_list b 0 n ++ zs) (length_list b 0 n ++ os) x ∙ rw (g, starts x (omega arith)) w)
 
 -- ---- the words that the bodies used are all that is to be cleared
-pub prefix_cleared : (bodies part : List ℕ) (sum used : ℕ) → used ≡ sum → sum ≤ length bodies → part ≡ replicate (length (take used bodies)) 0 → part ++ drop used bodies ≡ replicate sum 0 ++ drop sum bodies
-prefix_cleared bodies part sum used e l p = rw (p, e, length-take-le sum bodies l)
-
 -- a cleared slice knows its length
 pub zeros_long : (out : List ℕ) (room : ℕ) → out ≡ replicate room 0 → length out ≡ room
 zeros_long out room e = ap length e ∙ length-replicate {A = ℕ} room 0
@@ -137,7 +132,7 @@ module _ (b : ℕ → Row) (n : ℕ) where
     used_zeros : (start_of lengths 16 ≤ length bodies) × (replicate (start_of lengths 16) 0 ++ drop (start_of lengths 16) bodies ≡ replicate 65536 0)
     used_zeros = rw used_is (omega (arith, used_few, long), rest_zeros)
 
-pub used_cleared : (w : Walked) (number : ℕ) (bodies lengths : List ℕ) → BookWalked w (found.Rule number) bodies lengths → length bodies ≡ 65536 → length lengths ≡ 16
+pub used_cleared : (w : Walked) (number : ℕ) (bodies lengths : List ℕ) → BookWalked w (Ok (Some number)) bodies lengths → length bodies ≡ 65536 → length lengths ≡ 16
     → (start_of lengths 16 ≤ length bodies) × (replicate (start_of lengths 16) 0 ++ drop (start_of lengths 16) bodies ≡ replicate 65536 0)
 used_cleared w number bodies lengths k long sixteen = let q = walked_rule_lem w number bodies lengths k in used_zeros q.0.bodies q.1 bodies lengths q.4 q.5 long sixteen
 
@@ -157,12 +152,12 @@ first_word ws side from n e l h m =
     sym (ap (λ (k : List ℕ). get_or k 0 0) (sym e) ∙ get_or-take n (drop from ws) 0 0 m ∙ ap (λ (k : List ℕ). get_or k 0 0) (drop-cons ws from 0 h))
 
 -- ---- the right side of a rule, with the arguments that it sets aside
-module _ (book : List ℕ) (accepted : check_book book ≡ Good) (number : ℕ) (part bodies lengths out : List ℕ) where
-  pub rule_absent : sides_at book number ≡ sides.None → (r : Rewrote) → RuleWritten book number part bodies lengths out r
+module _ (book : List ℕ) (accepted : check_book book ≡ Ok tt) (number : ℕ) (part bodies lengths out : List ℕ) where
+  pub rule_absent : sides_at book number ≡ None → (r : Result ℕ Answer) → RuleWritten book number part bodies lengths out r
   unfolding RuleWritten
   rule_absent e r rule q = let z : rule_at book number ≡ none = sides_none book number e in never (cc)
 
-  module _ (s : Sides) (e : sides_at book number ≡ sides.Rule s) where
+  module _ (s : Sides) (e : sides_at book number ≡ Some s) where
     pub right_lies : (s.right ≤ s.end) × (s.end ≤ length book)
     right_lies = let q = (sides_rule book number s e).2 in (q.right_next, q.within)
 
@@ -190,7 +185,7 @@ module _ (book : List ℕ) (accepted : check_book book ≡ Good) (number : ℕ) 
         ∙ ap (λ (ws : List ℕ). count_of (get_or ws 0 0)) (sym i.same)
         ∙ ap count_of (sym (first_word book rule_there.0.left s.left (s.right - s.left) rule_there.2.left_is left_some.1 left_lies (omega (arith, left_some.0))))
 
-    pub rule_written : (b : ℕ) → b ≡ count_of (get_or book s.left 0) → (r : Rewrote) → FrontWritten (take (s.end - s.right) (drop s.right book)) b part bodies lengths out r
+    pub rule_written : (b : ℕ) → b ≡ count_of (get_or book s.left 0) → (r : Result ℕ Answer) → FrontWritten (take (s.end - s.right) (drop s.right book)) b part bodies lengths out r
         → RuleWritten book number part bodies lengths out r
     unfolding RuleWritten
     rule_written b c r w rule q =
@@ -203,18 +198,18 @@ module _ (book : List ℕ) (accepted : check_book book ≡ Good) (number : ℕ) 
 
 -- ---- a part
 module _ (book : List ℕ) where
-  pub at_none : (t : Row) (w : Walked) (bodies lengths out : List ℕ) → BookWalked w found.None bodies lengths → RewriteTold book t w out rewrote.None × Cleared bodies lengths
+  pub at_none : (t : Row) (w : Walked) (bodies lengths out : List ℕ) → BookWalked w (Ok None) bodies lengths → RewriteTold book t w out None × Cleared bodies lengths
   unfolding RewriteTold
   at_none t w bodies lengths out b = let q = walked_none w bodies lengths b in (rw q.0 refl, (q.1, q.2))
 
-  pub at_damaged : (t : Row) (w : Walked) (address : ℕ) (bodies lengths out : List ℕ) → BookWalked w (found.Damaged address) bodies lengths → RewriteTold book t w out (rewrote.Damaged address) × Cleared bodies lengths
+  pub at_damaged : (t : Row) (w : Walked) (address : ℕ) (bodies lengths out : List ℕ) → BookWalked w (Err address) bodies lengths → RewriteTold book t w out (Some (Err (answer.Damaged address))) × Cleared bodies lengths
   unfolding RewriteTold
   at_damaged t w address bodies lengths out b = let q = walked_damaged w address bodies lengths b in (rw q.0 refl, (q.1, q.2))
 
-  module _ (accepted : check_book book ≡ Good) (table ws : List ℕ) (parted : Parted ws) (some_words : 0 < length ws) where
+  module _ (accepted : check_book book ≡ Ok tt) (table ws : List ℕ) (parted : Parted ws) (some_words : 0 < length ws) where
     rule_told : (f : Fitting) (n : ℕ) (rule : Rule) → rule_at book f.number ≡ some rule → n ≡ rule.vars → ((x : ℕ) → x < n → IsBody (f.bodies x))
         → (bodies lengths : List ℕ) → bodies ≡ body_list f.bodies 0 n ++ replicate (65536 - length (body_list f.bodies 0 n)) 0 → lengths ≡ length_list f.bodies 0 n ++ replicate (16 - n) 0
-        → (out : List ℕ) (r : Rewrote) → RuleWritten book f.number ws bodies lengths out r → TakenTold (many_aside book (part_from ws 0) f) (rewritten book (part_from ws 0) f) out r
+        → (out : List ℕ) (r : Result ℕ Answer) → RuleWritten book f.number ws bodies lengths out r → TakenTold (many_aside book (part_from ws 0) f) (rewritten book (part_from ws 0) f) out r
     unfolding RuleWritten FrontWritten rewritten
     rule_told f n rule e vars terms bodies lengths b l out r w =
         let facts = book_rule book f.number rule accepted e in
@@ -231,14 +226,14 @@ module _ (book : List ℕ) where
         rw e (w rule e rule.vars (parameters_of rule.left) f.bodies (tree_of rule.right) a.0 a.1 low (ap words t ∙ sym right.same) stand)
 
     found_told : (f : Fitting) (n : ℕ) → FoundSound (book_fits book (root_count (part_from ws 0))) (RuleFits f n) → (bodies lengths : List ℕ) → bodies ≡ body_list f.bodies 0 n ++ replicate (65536 - length (body_list f.bodies 0 n)) 0
-        → lengths ≡ length_list f.bodies 0 n ++ replicate (16 - n) 0 → (out : List ℕ) (r : Rewrote) → RuleWritten book f.number ws bodies lengths out r
+        → lengths ≡ length_list f.bodies 0 n ++ replicate (16 - n) 0 → (out : List ℕ) (r : Result ℕ Answer) → RuleWritten book f.number ws bodies lengths out r
         → TakenTold (many_aside book (part_from ws 0) f) (rewritten book (part_from ws 0) f) out r
     found_told f n fs bodies lengths b l out r w =
         let q = fits_rule book (root_count (part_from ws 0)) (record { rule = f.number; aside = f.aside; variables = fs.0 }) fs.2 in
         rule_told f n q.0 q.1 (sym fs.1 ∙ q.2) fs.3 bodies lengths b l out r w
 
-    pub at_rule : (number : ℕ) (bodies lengths : List ℕ) → BookWalked (book_walk book table ws) (found.Rule number) bodies lengths → (out : List ℕ)
-        → (r : Rewrote) → RuleWritten book number ws bodies lengths out r → RewriteTold book (part_from ws 0) (book_walk book table ws) out r
+    pub at_rule : (number : ℕ) (bodies lengths : List ℕ) → BookWalked (book_walk book table ws) (Ok (Some number)) bodies lengths → (out : List ℕ)
+        → (r : Result ℕ Answer) → RuleWritten book number ws bodies lengths out r → RewriteTold book (part_from ws 0) (book_walk book table ws) out (Some r)
     unfolding RewriteTold
     at_rule number bodies lengths k out r w =
         let q = walked_rule_lem (book_walk book table ws) number bodies lengths k in
@@ -246,5 +241,5 @@ module _ (book : List ℕ) where
       where
         go : (v : Walked) → FoundSound (book_fits book (root_count (part_from ws 0))) v → (f : Fitting) (n : ℕ) → v ≡ RuleFits f n → number ≡ f.number
             → bodies ≡ body_list f.bodies 0 n ++ replicate (65536 - length (body_list f.bodies 0 n)) 0 → lengths ≡ length_list f.bodies 0 n ++ replicate (16 - n) 0
-            → RewriteTold book (part_from ws 0) v out r
+            → RewriteTold book (part_from ws 0) v out (Some r)
         go v s f n e y b l = rw e (found_told f n (rw e at s) bodies lengths b l out r (rw y at w))

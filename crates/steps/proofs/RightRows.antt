@@ -7,7 +7,7 @@ use Prim.Native.Nat.{ℕ, suc, ◌-◌}
 use native.Mathlib.Omega.{arith}
 use lib.Dec.{leb}
 use borrow.Author.Tests.{eqb-true, leb-true, ltb-true}
-use Rattle.term.specs.declared.check.Checked.TheVariants.{Good}
+use Rattle.std.specs.Prelude.{Ok}
 use Rattle.term.specs.Word.{Head, symbol, abstraction, variable, pattern, count}
 use Rattle.term.specs.Row.{Row, nothing, node, width, Formed}
 use Rattle.term.specs.Renumber.{inside}
@@ -72,7 +72,7 @@ module _ (vars : ℕ) (left : List ℕ) where
       )
 
 -- the right side of a rule of an accepted book
-pub accepted_right : (book : List ℕ) → check_book book ≡ Good → (number : ℕ) (rule : Rule) → rule_at book number ≡ some rule
+pub accepted_right : (book : List ℕ) → check_book book ≡ Ok tt → (number : ℕ) (rule : Rule) → rule_at book number ≡ some rule
     → RightRow rule.vars (parameters_of rule.left) 0 (tree_of rule.right) × (width (tree_of rule.right) ≡ 1)
 accepted_right book accepted number rule found =
     let f = book_rule book number rule accepted found in

@@ -5,8 +5,7 @@ use Prim.Native.Nat.{ℕ, ◌-◌, ◌≤◌, ◌<◌}
 use native.Mathlib.Omega.{arith}
 use lib.ListN.{length, replicate}
 use borrow.Author.Tests.{le-leb}
-use Rattle.term.specs.declared.check.Checked.{Checked}
-use Rattle.term.specs.declared.check.Checked.TheVariants.{Good, Bad}
+use Rattle.std.specs.Prelude.{Result, Ok, Err}
 use Rattle.term.specs.declared.answer.Answer.{Answer}
 use Rattle.term.specs.Answer.{number_of}
 use Rattle.term.specs.Row.{Row, words}
@@ -42,7 +41,7 @@ module _ (book table : List ℕ) where
   ends_given budget n v a (rests e q) = rw e (omega arith)
   ends_given budget n v a (used e m at f q) = rw e (omega arith)
 
-  module _ (room : ℕ) (large : 4096 ≤ room) (accepted : check_book book ≡ Good) (budget : ℕ) (ws : List ℕ) (i : IsTerm ws) where
+  module _ (room : ℕ) (large : 4096 ≤ room) (accepted : check_book book ≡ Ok tt) (budget : ℕ) (ws : List ℕ) (i : IsTerm ws) where
     run_gives : (r : Run) → RunIs book table budget i.tree r → RunGives room r
     run_gives (Stopped trace last a) r = stopped_gives room trace last a (stops_refused budget (length trace) r.0 a r.3)
     run_gives (Ended trace last a v) r =
@@ -53,12 +52,12 @@ module _ (book table : List ℕ) where
   unfolding simplify
   simplify_gives_lem room large budget ws = by_book_lem (check_book book) refl
     where
-      by_term_lem : check_book book ≡ Good → (c : Checked) → check term_limits ws ≡ c → RunGives room (run_with_term book table budget ws c)
-      by_term_lem g Good e =
+      by_term_lem : check_book book ≡ Ok tt → (c : Result (Unit {0}) ℕ) → check term_limits ws ≡ c → RunGives room (run_with_term book table budget ws c)
+      by_term_lem g (Ok _) e =
           let i = good_tree term_limits (omega arith) ws e in
           rw (tree_of_lem term_limits ws i) (run_gives room large g budget ws i (simplify_by book table budget i.tree) (run_is book table budget i.tree))
-      by_term_lem g (Bad at) e = stopped_gives room [] 0 _ (omega arith)
+      by_term_lem g (Err at) e = stopped_gives room [] 0 _ (omega arith)
 
-      by_book_lem : (c : Checked) → check_book book ≡ c → RunGives room (run_with_book book table budget ws (accept book))
-      by_book_lem Good e = rw (good_accepted book e) (by_term_lem e (check term_limits ws) refl)
-      by_book_lem (Bad at) e = rw (bad_refused book at e) (stopped_gives room [] 0 _ (omega arith))
+      by_book_lem : (c : Result (Unit {0}) ℕ) → check_book book ≡ c → RunGives room (run_with_book book table budget ws (accept book))
+      by_book_lem (Ok _) e = rw (good_accepted book e) (by_term_lem e (check term_limits ws) refl)
+      by_book_lem (Err at) e = rw (bad_refused book at e) (stopped_gives room [] 0 _ (omega arith))

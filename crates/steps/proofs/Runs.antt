@@ -1,22 +1,18 @@
 -- A run in the work area: the steps and visits made so far and what is left to run give the whole run.
 use mathlib.Core.Path.{◌≡◌, refl, sym, ap, ap₂, ◌∙◌}
-use mathlib.Core.List.{List, [], ◌++◌}
+use mathlib.Core.List.{List, []}
 use mathlib.Core.Option.{Option, none, some}
 use Prim.Native.Nat.{ℕ, zero, suc, ◌+◌, ◌*◌, ◌-◌, ◌≤◌}
 use native.Mathlib.Omega.{arith}
-use lib.ListN.{length, take, drop, replicate}
-use lib.Seq.{length-take-le, take-length, take-take, take-append_seam, paste}
+use lib.ListN.{length, take, replicate}
+use lib.Seq.{length-take-le, take-length, take-take}
 use borrow.Author.Tests.{le-leb}
-use Rattle.term.specs.declared.check.Checked.{Checked}
-use Rattle.term.specs.declared.check.Checked.TheVariants.{Good, Bad}
 use Rattle.term.specs.declared.answer.Answer.{Answer}
 use Rattle.term.specs.declared.answer.Answer.TheVariants as answer
 use Rattle.term.specs.Row.{Row, words}
 use Rattle.term.specs.Check.{IsTerm, check, term_limits}
 use Rattle.term.specs.Part.{padded}
 use Rattle.term.proofs.Laws.{never, padded_fits}
-use Rattle.book.specs.declared.accept.Accepted.{Accepted}
-use Rattle.book.specs.declared.accept.Accepted.TheVariants as accepted
 use Rattle.book.specs.Accept.{accept}
 use Rattle.book.specs.Book.{check_book}
 use Rattle.fit.specs.Match.{tree_of}
@@ -25,9 +21,8 @@ use Rattle.steps.specs.Offset.{part_at}
 use Rattle.steps.specs.Rewrite.{many_aside, rewritten}
 use Rattle.steps.specs.Step.{Sought, Nowhere, FoundAt, Broken, lowest_offset, search_visits, Stepped, Rests, Becomes, Refused, step}
 use Rattle.steps.specs.Simplify.{found, Run, Stopped, Ended, one_more, budget_used, after_step, simplify_by, run_with_term, run_with_book, simplify, simplify_answer, simplify_words, simplify_steps, simplify_visits}
-use Rattle.steps.specs.declared.rules.Rewrote.{Rewrote}
-use Rattle.steps.specs.declared.rules.Rewrote.TheVariants as rewrote
-use Rattle.steps.specs.declared.simplify.Moved.TheVariants as moved
+use Rattle.std.specs.Prelude as prelude
+use Rattle.std.specs.Prelude.{Some, None, Result, Ok, Err}
 use Rattle.steps.specs.declared.simplify.Ran.{Ran}
 use Rattle.steps.specs.declared.simplify.Simplified.{Simplified}
 use Rattle.steps.specs.Told.Operations.{asked, given_answer, TakenTold, LowestTold, MoveTold, RanTold, used_answer, used_size, UsedTold, looked_at}
@@ -54,26 +49,25 @@ module _ (book table ws : List ℕ) (i : IsTerm ws) (n v m : ℕ) (new : List �
   whole_told a e s y z = ended_told n v m ws r s y a (tree_of ws) e (omega (arith, z)) (ap (λ (k : ℕ). take k ws) z ∙ take-length ws ∙ sym (tree_words_lem ws i))
 
   -- a rule was found, whatever it would write
-  used_found : (k : ℕ) (o : Option Row) (w : Rewrote) → TakenTold k o new w → (used_answer w ≡ answer.BudgetUsed) × (used_size (length ws) w ≡ length ws)
-  used_found k none w l = rw l (refl, refl)
-  used_found k (some u) rewrote.None l = absurd l
-  used_found k (some u) (rewrote.Wrote x) l = (refl, refl)
-  used_found k (some u) (rewrote.Damaged at) l = absurd l
-  used_found k (some u) (rewrote.CannotTake x) l = absurd l
-  used_found k (some u) rewrote.Over l = (refl, refl)
+  used_found : (k : ℕ) (o : Option Row) (at : ℕ) (w : Result ℕ Answer) → TakenTold k o new w → (used_answer (Some (at, w)) ≡ answer.BudgetUsed) × (used_size (length ws) (Some (at, w)) ≡ length ws)
+  used_found k none at w l = rw l (refl, refl)
+  used_found k (some u) at (Ok x) l = (refl, refl)
+  used_found k (some u) at (Err a) l = rw l.0 (refl, refl)
 
-  by_search : (s : Sought) (at : ℕ) (w : Rewrote) → LowestTold book (tree_of ws) s new at w → UsedTold w n (v + m) (length ws) r → RanTold n v (budget_used (tree_of ws) m s) r ws
+  by_search : (s : Sought) (w : prelude.Option (ℕ × Result ℕ Answer)) → LowestTold book (tree_of ws) s new w → UsedTold w n (v + m) (length ws) r → RanTold n v (budget_used (tree_of ws) m s) r ws
   unfolding LowestTold
-  by_search Nowhere at w l u = let q = rw l at u in whole_told answer.Done q.0 q.1 q.2 q.3
-  by_search (FoundAt a f) at w l u =
-      let q = used_found (many_aside book (part_at (tree_of ws) a) f) (rewritten book (part_at (tree_of ws) a) f) w l.1 in
+  by_search Nowhere w l u = let q = rw l at u in whole_told answer.Done q.0 q.1 q.2 q.3
+  by_search (FoundAt a f) None l u = absurd l
+  by_search (FoundAt a f) (Some (at, w)) l u =
+      let q = used_found (many_aside book (part_at (tree_of ws) a) f) (rewritten book (part_at (tree_of ws) a) f) at w l.1 in
       whole_told answer.BudgetUsed (u.0 ∙ q.0) u.1 u.2 (u.3 ∙ q.1)
-  by_search (Broken address) at w l u = let q = rw l at u in stopped_told n v m ws r q.1 q.2 (answer.Damaged address) q.0 q.3
+  by_search (Broken address) None l u = absurd l
+  by_search (Broken address) (Some (at, w)) l u = let q = rw l at u in stopped_told n v m ws r q.1 q.2 (answer.Damaged address) q.0 q.3
 
-pub look_told : (book table ws : List ℕ) → IsTerm ws → (n v : ℕ) (new : List ℕ) (at : ℕ) (w : Rewrote) → LowestTold book (tree_of ws) (lowest_offset book table (tree_of ws)) new at w
+pub look_told : (book table ws : List ℕ) → IsTerm ws → (n v : ℕ) (new : List ℕ) (w : prelude.Option (ℕ × Result ℕ Answer)) → LowestTold book (tree_of ws) (lowest_offset book table (tree_of ws)) new w
     → (m : ℕ) → m ≡ search_visits book table (tree_of ws) → (r : Ran) → UsedTold w n (v + m) (length ws) r → RanTold n v (looked_at book table (tree_of ws)) r ws
-look_told book table ws i n v new at w l m e r u =
-    by_search book table ws i n v (search_visits book table (tree_of ws)) new r (lowest_offset book table (tree_of ws)) at w l (rw e at u)
+look_told book table ws i n v new w l m e r u =
+    by_search book table ws i n v (search_visits book table (tree_of ws)) new r (lowest_offset book table (tree_of ws)) w l (rw e at u)
 
 pub look_few : (book table ws : List ℕ) → IsTerm ws → (m : ℕ) → m ≡ search_visits book table (tree_of ws) → m ≤ 67112960
 look_few book table ws i m e = omega (arith, e, term_few book table (tree_of ws) (tree_body ws i))
@@ -94,18 +88,7 @@ pub record Running (book table : List ℕ) (budget : ℕ) (start : Row) (area : 
   pub visited : made ≤ 67112960 * (budget - left)
   pub tells : (r : Ran) (last : List ℕ) → RanTold (budget - left) made (simplify_by book table left (tree_of (take size area))) r last → RanTold 0 0 (simplify_by book table budget start) r last
 
-pub run_start : (book table : List ℕ) (budget : ℕ) (ws area : List ℕ) → IsTerm ws → length area ≡ 4096 → take (length ws) area ≡ ws → Running book table budget (tree_of ws) area (length ws) budget 0
-run_start book table budget ws area i l e =
-    record {
-      long = l;
-      few = i.short;
-      term = rw e i;
-      below = omega arith;
-      visited = omega arith;
-      tells = λ r last t. let z : budget - budget ≡ 0 = omega arith in rw (z, e) at t;
-    }
-
-module _ (book : List ℕ) (accepted : check_book book ≡ Good) (table : List ℕ) (budget : ℕ) (start : Row) (area : List ℕ) (size left made : ℕ) (run : Running book table budget start area size left made) where
+module _ (book : List ℕ) (accepted : check_book book ≡ Ok tt) (table : List ℕ) (budget : ℕ) (start : Row) (area : List ℕ) (size left made : ℕ) (run : Running book table budget start area size left made) where
   abbrev t : Row
   t = tree_of (take size area)
 
@@ -125,15 +108,14 @@ module _ (book : List ℕ) (accepted : check_book book ≡ Good) (table : List �
       told_next s e r last x = run.tells r last (rw (next_is left refl ∙ ap (after_step (simplify_by book table (left - 1)) t m) e) x)
 
       module _ (after : List ℕ) (long : length after ≡ length area) where
-        pub run_more : (n : ℕ) → MoveTold (step book table (tree_of (take size area))) size area after (moved.To n) → Running book table budget start after n (left - 1) (made + m)
+        pub run_more : (n : ℕ) → MoveTold (step book table (tree_of (take size area))) area after (Ok (Some n)) → Running book table budget start after n (left - 1) (made + m)
         unfolding MoveTold
         run_more n x = go (step book table t) refl x
           where
-            go : (s : Stepped) → step book table t ≡ s → MoveTold s size area after (moved.To n) → Running book table budget start after n (left - 1) (made + m)
-            go Rests e x = let z : moved.To n ≡ moved.Ends answer.Done size = x.0 in never (cc)
+            go : (s : Stepped) → step book table t ≡ s → MoveTold s area after (Ok (Some n)) → Running book table budget start after n (left - 1) (made + m)
+            go Rests e x = never (cc)
             go (Becomes rule u) e x =
-                let z : moved.To n ≡ moved.To x.0 = x.1 in
-                let y : n ≡ x.0 = cc in
+                let y : n ≡ x.0 = cc x.1 in
                 let w : take n after ≡ words u = rw y x.3 in
                 let b = body_is_term u (step_term book accepted table rule t u (tree_body (take size area) run.term) e) in
                 let q : tree_of (take n after) ≡ u = ap tree_of w ∙ tree_of_lem term_limits (words u) b in
@@ -146,23 +128,28 @@ module _ (book : List ℕ) (accepted : check_book book ≡ Good) (table : List �
                   visited = omega (arith, run.visited, search_short, k);
                   tells = λ r last o. told_next (Becomes rule u) e r last (told_more (budget - left) made rule m (simplify_by book table (left - 1) u) r last (rw (q, k) at o));
                 }
-            go (Refused a) e x = let z : moved.To n ≡ moved.Ends a 0 = x in never (cc)
+            go (Refused a) e x = never (cc)
 
-        pub run_ends : (r : Ran) → r.steps ≡ budget - left → r.visits ≡ made + m → MoveTold (step book table (tree_of (take size area))) size area after (moved.Ends r.answer r.size)
-            → RanTold 0 0 (simplify_by book table budget start) r after
-        unfolding MoveTold
-        run_ends r steps seen x = go (step book table t) refl x
-          where
-            go : (s : Stepped) → step book table t ≡ s → MoveTold s size area after (moved.Ends r.answer r.size) → RanTold 0 0 (simplify_by book table budget start) r after
-            go Rests e x =
-                let d : moved.Ends r.answer r.size ≡ moved.Ends answer.Done size = x.0 in
-                let z : r.size ≡ size = cc in
-                let w : take r.size after ≡ words t = ap₂ (λ (n : ℕ) (l : List ℕ). take n l) z x.1 ∙ sym (tree_words_lem (take size area) run.term) in
-                told_next Rests e r after (ended_told (budget - left) made m after r steps seen answer.Done t (cc) (omega (arith, z, long, run.long, run.few)) w)
-            go (Becomes rule u) e x = let z : moved.Ends r.answer r.size ≡ moved.To x.0 = x.1 in never (cc)
-            go (Refused a) e x =
-                let d : moved.Ends r.answer r.size ≡ moved.Ends a 0 = x in
-                told_next (Refused a) e r after (stopped_told (budget - left) made m after r steps seen a (cc) (cc))
+        module _ (r : Ran) (steps : r.steps ≡ budget - left) (seen : r.visits ≡ made + m) where
+          pub run_rests : MoveTold (step book table (tree_of (take size area))) area after (Ok None) → r.answer ≡ answer.Done → r.size ≡ size → RanTold 0 0 (simplify_by book table budget start) r after
+          unfolding MoveTold
+          run_rests x done same = go (step book table t) refl x
+            where
+              go : (s : Stepped) → step book table t ≡ s → MoveTold s area after (Ok None) → RanTold 0 0 (simplify_by book table budget start) r after
+              go Rests e x =
+                  let w : take r.size after ≡ words t = ap₂ (λ (n : ℕ) (l : List ℕ). take n l) same x.1 ∙ sym (tree_words_lem (take size area) run.term) in
+                  told_next Rests e r after (ended_told (budget - left) made m after r steps seen answer.Done t done (omega (arith, same, long, run.long, run.few)) w)
+              go (Becomes rule u) e x = never (cc x.1)
+              go (Refused a) e x = never (cc)
+
+          pub run_refused : MoveTold (step book table (tree_of (take size area))) area after (Err r.answer) → r.size ≡ 0 → RanTold 0 0 (simplify_by book table budget start) r after
+          unfolding MoveTold
+          run_refused x none_left = go (step book table t) refl x
+            where
+              go : (s : Stepped) → step book table t ≡ s → MoveTold s area after (Err r.answer) → RanTold 0 0 (simplify_by book table budget start) r after
+              go Rests e x = never (cc)
+              go (Becomes rule u) e x = never (cc x.1)
+              go (Refused a) e x = told_next (Refused a) e r after (stopped_told (budget - left) made m after r steps seen a (cc) none_left)
 
   pub run_used : left ≡ 0 → (r : Ran) → RanTold budget made (looked_at book table (tree_of (take size area))) r (take size area) → RanTold 0 0 (simplify_by book table budget start) r area
   unfolding simplify_by
@@ -172,9 +159,6 @@ module _ (book : List ℕ) (accepted : check_book book ≡ Good) (table : List �
       run.tells r area (rw (z, y) q)
 
 -- ---- the term copied into the area
-pub copied_term : (area ws next : List ℕ) → next ≡ paste area 0 ws (length ws) → take (length ws) next ≡ ws
-copied_term area ws next e = ap (take (length ws)) (e ∙ ap (λ (l : List ℕ). l ++ drop (0 + length ws) area) (take-length ws)) ∙ take-append_seam ws (drop (0 + length ws) area)
-
 -- ---- the answer, the steps, the visits and the words that are given
 abbrev pub RunTold : ℕ → Run → Simplified → List ℕ → Type 0
 RunTold room run r out = (r.answer ≡ simplify_answer room run) × (out ≡ simplify_words room run) × (r.steps ≡ simplify_steps run) × (r.visits ≡ simplify_visits run)
@@ -188,30 +172,25 @@ run_given room (Stopped trace last a) ran area t r out g s v =
     (g.0 ∙ rw (z, t.0) (rw (le-leb 0 room (omega arith))), g.1 ∙ rw z (padded_fits room [] (omega arith) ∙ rw y), omega (arith, s, t.1), omega (arith, v, t.2))
 run_given room (Ended trace last a u) ran area t r out g s v = (g.0 ∙ rw (t.4, t.0), g.1 ∙ rw t.4, omega (arith, s, t.1), omega (arith, v, t.2))
 
--- how many words the term so far has
-pub run_few : (run : Run) (ran : Ran) (area : List ℕ) → RanTold 0 0 run ran area → ran.size ≤ length area
-run_few (Stopped trace last a) ran area t = omega (arith, t.3)
-run_few (Ended trace last a u) ran area t = t.3
-
 -- ---- the book and the term
 module _ (room : ℕ) (book table ws : List ℕ) (budget : ℕ) (r : Simplified) (out : List ℕ) where
   stopped_run : (a b : Answer) → b ≡ a → r.answer ≡ a → r.steps ≡ 0 → r.visits ≡ 0 → out ≡ replicate room 0 → RunTold room (Stopped [] 0 b) r out
   unfolding simplify_answer simplify_words simplify_steps simplify_visits
   stopped_run a b y q s v c = (q ∙ sym y, c, s, omega (arith, v))
 
-  pub simplify_refused : (a : Answer) → asked (accept book) (check term_limits ws) ≡ accepted.Refused a → r.answer ≡ a → r.steps ≡ 0 → r.visits ≡ 0 → out ≡ replicate room 0
+  pub simplify_refused : (a : Answer) → asked (accept book) (check term_limits ws) ≡ Err a → r.answer ≡ a → r.steps ≡ 0 → r.visits ≡ 0 → out ≡ replicate room 0
       → RunTold room (simplify book table budget ws) r out
   unfolding simplify
   simplify_refused a e q s v c = by_book_lem (accept book) e
     where
-      by_term_lem : (c : Checked) → asked accepted.Sound c ≡ accepted.Refused a → RunTold room (run_with_term book table budget ws c) r out
-      by_term_lem Good e = never (cc)
-      by_term_lem (Bad at) e = stopped_run a (answer.BadTerm at) (cc) q s v c
+      by_term_lem : (c : Result (Unit {0}) ℕ) → asked (Ok tt) c ≡ Err a → RunTold room (run_with_term book table budget ws c) r out
+      by_term_lem (Ok _) e = never (cc)
+      by_term_lem (Err at) e = stopped_run a (answer.BadTerm at) (cc) q s v c
 
-      by_book_lem : (b : Accepted) → asked b (check term_limits ws) ≡ accepted.Refused a → RunTold room (run_with_book book table budget ws b) r out
-      by_book_lem accepted.Sound e = by_term_lem (check term_limits ws) e
-      by_book_lem (accepted.Refused d) e = stopped_run a d (cc) q s v c
+      by_book_lem : (b : Result (Unit {0}) Answer) → asked b (check term_limits ws) ≡ Err a → RunTold room (run_with_book book table budget ws b) r out
+      by_book_lem (Ok _) e = by_term_lem (check term_limits ws) e
+      by_book_lem (Err d) e = stopped_run a d (cc) q s v c
 
-  pub simplify_run : asked (accept book) (check term_limits ws) ≡ accepted.Sound → RunTold room (simplify_by book table budget (tree_of ws)) r out → RunTold room (simplify book table budget ws) r out
+  pub simplify_run : asked (accept book) (check term_limits ws) ≡ Ok tt → RunTold room (simplify_by book table budget (tree_of ws)) r out → RunTold room (simplify book table budget ws) r out
   unfolding simplify
   simplify_run e t = rw (sound_book book ws e, sound_term book ws e) t

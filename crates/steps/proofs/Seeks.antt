@@ -1,8 +1,6 @@
 -- The lowest offset, sought word by word: what is left to seek gives the answer, and the visits made and those left are all, since the walk over the words from an offset on is the walk over the part there.
 use mathlib.Core.Path.{◌≡◌, refl, sym, ap, ◌∙◌}
-use mathlib.Core.Bool.{true, false}
 use mathlib.Core.List.{List}
-use mathlib.Core.Option.{Option, none, some}
 use Prim.Native.Nat.{ℕ, zero, suc, ◌+◌, ◌*◌, ◌-◌, ◌≤◌, ◌<◌}
 use native.Mathlib.Omega.{arith}
 use lib.ListN.{length, drop, length-drop}
@@ -18,10 +16,9 @@ use Rattle.walk.specs.Told.WithBook.{book_walk, book_visits}
 use Rattle.walk.proofs.Laws.{from_stands, visits_few}
 use Rattle.steps.specs.Offset.{part_at}
 use Rattle.steps.specs.Step.{Sought, or_later, seek_rule, lowest_offset, later_visits, seek_visits, search_visits}
-use Rattle.steps.specs.Rewrite.{many_aside, rewritten}
-use Rattle.steps.specs.declared.rules.Rewrote.{Rewrote}
-use Rattle.steps.specs.declared.rules.Rewrote.TheVariants as rewrote
-use Rattle.steps.specs.Told.Operations.{TakenTold, RewriteTold, LowestTold, ends_search}
+use Rattle.std.specs.Prelude.{Option, Some, None, Result}
+use Rattle.term.specs.declared.answer.Answer.{Answer}
+use Rattle.steps.specs.Told.Operations.{RewriteTold, LowestTold}
 use Rattle.steps.proofs.Offsets as offsets
 
 -- ---- a term's words and its tree
@@ -46,26 +43,18 @@ module _ (book : List ℕ) (t : Row) (at : ℕ) (later : Sought) (new : List ℕ
   p = part_at t at
 
   -- the search goes on
-  pub told_none : (w : Walked) (r : Rewrote) → ends_search r ≡ false → RewriteTold book (part_at t at) w new r → (or_later at w later ≡ later) × ((n : ℕ) → later_visits w n ≡ n)
+  pub told_none : (w : Walked) → RewriteTold book (part_at t at) w new None → (or_later at w later ≡ later) × ((n : ℕ) → later_visits w n ≡ n)
   unfolding RewriteTold
-  told_none NoneFits r e x = (refl, λ n. refl)
-  told_none (RuleFits f m) r e x = absurd (go (rewritten book p f) r e x)
-    where
-      go : (o : Option Row) (r : Rewrote) → ends_search r ≡ false → TakenTold (many_aside book p f) o new r → ⊥
-      go none r e x = let z : ends_search r ≡ true = ap ends_search x in never (cc)
-      go (some u) rewrote.None e x = x
-      go (some u) (rewrote.Wrote n) e x = never (cc)
-      go (some u) (rewrote.Damaged a) e x = x
-      go (some u) (rewrote.CannotTake n) e x = x
-      go (some u) rewrote.Over e x = never (cc)
-  told_none (DamagedAt a) r e x = let z : ends_search r ≡ true = ap ends_search x in never (cc)
+  told_none NoneFits x = (refl, λ n. refl)
+  told_none (RuleFits f m) x = absurd x
+  told_none (DamagedAt a) x = never (cc)
 
   -- the search ends here
-  pub told_ends : (w : Walked) (r : Rewrote) → ends_search r ≡ true → RewriteTold book (part_at t at) w new r → LowestTold book t (or_later at w later) new at r × ((n : ℕ) → later_visits w n ≡ 0)
+  pub told_ends : (w : Walked) (r : Result ℕ Answer) → RewriteTold book (part_at t at) w new (Some r) → LowestTold book t (or_later at w later) new (Some (at, r)) × ((n : ℕ) → later_visits w n ≡ 0)
   unfolding RewriteTold LowestTold
-  told_ends NoneFits r e x = let z : ends_search r ≡ false = ap ends_search x in never (cc)
-  told_ends (RuleFits f m) r e x = ((refl, x), λ n. refl)
-  told_ends (DamagedAt a) r e x = (x, λ n. refl)
+  told_ends NoneFits r x = never (cc)
+  told_ends (RuleFits f m) r x = ((refl, x), λ n. refl)
+  told_ends (DamagedAt a) r x = (cc, λ n. refl)
 
 -- ---- the loop
 abbrev pub left_to_seek : List ℕ → List ℕ → List ℕ → ℕ → Sought
@@ -92,7 +81,7 @@ module _ (book table ws : List ℕ) (i : IsTerm ws) where
       record { same = rw (tree_words_lem ws i, z); all = rw (tree_words_lem ws i, z) (rw z at y); few = omega arith }
 
   module _ (at made : ℕ) (l : length ws ≤ at) (new : List ℕ) (s : Seeking book table ws at made) where
-    pub seek_end : LowestTold book (tree_of ws) (lowest_offset book table (tree_of ws)) new at rewrote.None
+    pub seek_end : LowestTold book (tree_of ws) (lowest_offset book table (tree_of ws)) new None
     unfolding seek_rule LowestTold
     seek_end = let z : length ws - at ≡ 0 = omega arith in rw (s.same, z) refl
 
@@ -129,16 +118,15 @@ module _ (book table ws : List ℕ) (i : IsTerm ws) where
         more_visits (length ws - at) refl ∙ rw (part_there ws i at l, y, z)
 
   -- ---- one turn: the part at an offset, with the visits of its walk
-  module _ (at made : ℕ) (l : at < length ws) (s : Seeking book table ws at made) (part : List ℕ) (p : part ≡ drop at ws) (new : List ℕ) (r : Rewrote)
-      (x : RewriteTold book (part_from part 0) (book_walk book table part) new r) (n : ℕ) (v : n ≡ book_visits table part) where
+  module _ (at made : ℕ) (l : at < length ws) (s : Seeking book table ws at made) (part : List ℕ) (p : part ≡ drop at ws) (new : List ℕ) (n : ℕ) (v : n ≡ book_visits table part) where
     abbrev here : Walked
     here = book_walk book table (drop at ws)
 
     abbrev later : Sought
     later = left_to_seek book table ws (at + 1)
 
-    at_part : RewriteTold book (part_at (tree_of ws) at) (book_walk book table (drop at ws)) new r
-    at_part =
+    at_part : (r : Option (Result ℕ Answer)) → RewriteTold book (part_from part 0) (book_walk book table part) new r → RewriteTold book (part_at (tree_of ws) at) (book_walk book table (drop at ws)) new r
+    at_part r x =
         let e = part_there ws i at l in
         let y : RewriteTold book (part_from (drop at ws) 0) (book_walk book table (drop at ws)) new r = rw p at x in
         rw (sym e) y
@@ -146,16 +134,17 @@ module _ (book table ws : List ℕ) (i : IsTerm ws) where
     here_visits : n ≡ book_visits table (drop at ws)
     here_visits = rw p at v
 
-    pub seek_more : ends_search r ≡ false → Seeking book table ws (at + 1) (made + n)
-    seek_more e =
-        let q = told_none book (tree_of ws) at later new here r e at_part in
+    pub seek_more : RewriteTold book (part_from part 0) (book_walk book table part) new None → Seeking book table ws (at + 1) (made + n)
+    seek_more x =
+        let q = told_none book (tree_of ws) at later new here (at_part None x) in
         record { same = s.same ∙ seek_here at l ∙ q.0; all = omega (arith, s.all, visits_here_lem at l, here_visits, q.1 (left_to_visit book table ws (at + 1))); few = omega (arith, s.few, v, visits_few table (part_from part 0)) }
 
-    pub seek_found : ends_search r ≡ true → LowestTold book (tree_of ws) (lowest_offset book table (tree_of ws)) new at r
-    seek_found e = rw (s.same ∙ seek_here at l) (told_ends book (tree_of ws) at later new here r e at_part).0
+    module _ (r : Result ℕ Answer) (x : RewriteTold book (part_from part 0) (book_walk book table part) new (Some r)) where
+      pub seek_found : LowestTold book (tree_of ws) (lowest_offset book table (tree_of ws)) new (Some (at, r))
+      seek_found = rw (s.same ∙ seek_here at l) (told_ends book (tree_of ws) at later new here r (at_part (Some r) x)).0
 
-    pub found_visits : ends_search r ≡ true → made + n ≡ search_visits book table (tree_of ws)
-    found_visits e = omega (arith, s.all, visits_here_lem at l, here_visits, (told_ends book (tree_of ws) at later new here r e at_part).1 (left_to_visit book table ws (at + 1)))
+      pub found_visits : made + n ≡ search_visits book table (tree_of ws)
+      found_visits = omega (arith, s.all, visits_here_lem at l, here_visits, (told_ends book (tree_of ws) at later new here r (at_part (Some r) x)).1 (left_to_visit book table ws (at + 1)))
 
 -- ---- how many nodes a search can visit
 seek_few : (look : Row → Walked) (nodes : Row → ℕ) → ((p : Row) → nodes p ≤ 16385) → (t : Row) (at more : ℕ) → seek_visits look nodes t at more ≤ 16385 * more

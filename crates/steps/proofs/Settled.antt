@@ -9,7 +9,7 @@ use native.Mathlib.Omega.{arith}
 use lib.Dec.{ltb}
 use lib.ListN.{length, get_or}
 use borrow.Author.Tests.{ltb-true, ltb-false}
-use Rattle.term.specs.declared.check.Checked.TheVariants.{Good}
+use Rattle.std.specs.Prelude.{Ok}
 use Rattle.term.specs.declared.answer.Answer.{Answer}
 use Rattle.term.specs.declared.answer.Answer.TheVariants.{CannotTake}
 use Rattle.term.specs.Word.{Head, symbol, abstraction, variable, pattern}
@@ -85,7 +85,7 @@ same_steps (Stopped x k a) (Ended y l c w) e = absurd e
 same_steps (Ended x k a v) (Stopped y l c) e = absurd e
 same_steps (Ended x k a v) (Ended y l c w) e = same_long x y e.1
 
-module _ (book : List ℕ) (accepted : check_book book ≡ Good) where
+module _ (book : List ℕ) (accepted : check_book book ≡ Ok tt) where
   -- ---- the lowest rule that fits a term, and its bodies, are the only ones
   module _ (p : Row) (i : IsBody p) (f g : Fitting) (a : LowestFrontFits book 0 (get_or book 0 0) p f) (c : LowestFrontFits book 0 (get_or book 0 0) p g) where
     same_number_lem : f.number ≡ g.number

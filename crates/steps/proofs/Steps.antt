@@ -8,7 +8,7 @@ use native.Mathlib.Omega.{arith}
 use lib.Dec.{eqb}
 use lib.ListN.{length, length-append}
 use borrow.Author.Tests.{eqb-true, eqb-false}
-use Rattle.term.specs.declared.check.Checked.TheVariants.{Good}
+use Rattle.std.specs.Prelude.{Ok}
 use Rattle.term.specs.declared.answer.Answer.{Answer}
 use Rattle.term.specs.declared.answer.Answer.TheVariants.{Done, BudgetUsed, Damaged, Over, CannotTake}
 use Rattle.term.specs.Word.{pick}
@@ -93,7 +93,7 @@ part_term t i at l =
       within = record { formed = p.formed w.formed; few = omega (arith, p.few, w.few); low = omega (arith, p.low, w.low); short = omega (arith, n, w.short) };
     }
 
-module _ (book : List ℕ) (accepted : check_book book ≡ Good) (table : List ℕ) where
+module _ (book : List ℕ) (accepted : check_book book ≡ Ok tt) (table : List ℕ) where
   -- ---- what a rule that is found makes of a term is one term, but for its limits
   pub record Wrote (u : Row) : Type 0 where
     pub one : width u ≡ 1
@@ -246,7 +246,7 @@ module _ (book table : List ℕ) where
   run_is (suc budget) t = after_step_lem budget (simplify_by book table budget) (λ u. run_is budget u) t (step book table t) refl (step_why budget t)
 
   -- every term on the way is a term
-  pub steps_term : check_book book ≡ Good → (trace : List Search) (t v : Row) → IsBody t → StepsTo trace t v → IsBody v
+  pub steps_term : check_book book ≡ Ok tt → (trace : List Search) (t v : Row) → IsBody t → StepsTo trace t v → IsBody v
   unfolding StepsTo
   steps_term g [] t v i s = rw s at i
   steps_term g (x ∷ trace) t v i s = steps_term g trace s.0 v (step_term book g table x.rule t s.0 i s.1) s.3

@@ -6,8 +6,7 @@ use mathlib.Core.Option.{some}
 use Prim.Native.Nat.{ℕ, ◌+◌, ◌*◌, ◌≤◌}
 use native.Mathlib.Omega.{arith}
 use lib.ListN.{length}
-use Rattle.term.specs.declared.check.Checked.{Checked}
-use Rattle.term.specs.declared.check.Checked.TheVariants.{Good, Bad}
+use Rattle.std.specs.Prelude.{Result, Ok, Err}
 use Rattle.term.specs.Row.{Row, words}
 use Rattle.term.specs.Check.{check, term_limits}
 use Rattle.term.proofs.Laws.{good_tree}
@@ -54,7 +53,7 @@ module _ (book table : List ℕ) where
       let k : SeekIs (walk (book_fits book) table) t 0 (length (words t)) (FoundAt m.0 m.1) = rw m.2 at (lowest_offset_is book table t) in
       walked_rule_lem (part_at t m.0) (part_term t i m.0 k.1.inside) m.1 k.0 k.1.here number m.7
 
-  module _ (accepted : check_book book ≡ Good) where
+  module _ (accepted : check_book book ≡ Ok tt) where
     pub trace_rules : (trace : List Search) (t v : Row) → IsBody t → StepsTo book table trace t v → EachFound book trace
     unfolding StepsTo
     trace_rules [] t v i s = tt
@@ -72,7 +71,7 @@ module _ (book table : List ℕ) where
   abbrev pub TraceIs : Run → Type 0
   TraceIs run = EachFound book (trace_of run) × (simplify_visits run ≤ 67112960 * (simplify_steps run + 1))
 
-  module _ (accepted : check_book book ≡ Good) (budget : ℕ) (t : Row) (i : IsBody t) where
+  module _ (accepted : check_book book ≡ Ok tt) (budget : ℕ) (t : Row) (i : IsBody t) where
     run_trace : (run : Run) → RunIs book table budget t run → TraceIs run
     unfolding simplify_steps simplify_visits
     run_trace (Stopped trace last a) r =
@@ -86,12 +85,12 @@ module _ (book table : List ℕ) where
   unfolding simplify simplify_steps simplify_visits
   simplify_trace budget ws = by_book_lem (check_book book) refl
     where
-      by_term_lem : check_book book ≡ Good → (c : Checked) → check term_limits ws ≡ c → TraceIs (run_with_term book table budget ws c)
-      by_term_lem g Good e =
+      by_term_lem : check_book book ≡ Ok tt → (c : Result (Unit {0}) ℕ) → check term_limits ws ≡ c → TraceIs (run_with_term book table budget ws c)
+      by_term_lem g (Ok _) e =
           let i = good_tree term_limits (omega arith) ws e in
           rw (tree_of_lem term_limits ws i) (run_trace g budget i.tree (term_is_body ws i) (simplify_by book table budget i.tree) (run_is book table budget i.tree))
-      by_term_lem g (Bad at) e = (tt, omega arith)
+      by_term_lem g (Err at) e = (tt, omega arith)
 
-      by_book_lem : (c : Checked) → check_book book ≡ c → TraceIs (run_with_book book table budget ws (accept book))
-      by_book_lem Good e = rw (good_accepted book e) (by_term_lem e (check term_limits ws) refl)
-      by_book_lem (Bad at) e = rw (bad_refused book at e) (tt, omega arith)
+      by_book_lem : (c : Result (Unit {0}) ℕ) → check_book book ≡ c → TraceIs (run_with_book book table budget ws (accept book))
+      by_book_lem (Ok _) e = rw (good_accepted book e) (by_term_lem e (check term_limits ws) refl)
+      by_book_lem (Err at) e = rw (bad_refused book at e) (tt, omega arith)

@@ -5,8 +5,7 @@ use mathlib.Core.List.{List, [], append-nil}
 use Prim.Native.Nat.{ℕ}
 use native.Mathlib.Omega.{arith}
 use lib.ListN.{length}
-use Rattle.term.specs.declared.renumber.Passed.{Passed}
-use Rattle.term.specs.declared.renumber.Passed.TheVariants.{Done, Stuck}
+use Rattle.std.specs.Prelude.{Option, Some, None}
 use Rattle.term.specs.Row.{Row, words}
 use Rattle.fit.specs.Build.{within_limits}
 use Rattle.fit.specs.Told.BuildWalk.{RowBuilt}
@@ -18,11 +17,11 @@ use Rattle.steps.specs.Told.RightWalk.{WrittenWithin, RightWritten, RightStands,
 use Rattle.steps.proofs.Shaped.{Shaped, shaped_written, limits_within}
 use Rattle.steps.proofs.OnePass.{written_root}
 
-within_told : (out done : List ℕ) (t : Row) → Shaped t → (r : Passed) → RowBuilt 64 out 0 done t r → WrittenWithin out done t r
-within_told out done t f (Done n) r =
+within_told : (out done : List ℕ) (t : Row) → Shaped t → (r : Option ℕ) → RowBuilt 64 out 0 done t r → WrittenWithin out done t r
+within_told out done t f (Some n) r =
     let e : n ≡ length (words t) = omega (arith, r.2) in
     (within_limits_lem t r.0 r.1 (omega (arith, e, r.3)), e, r.4)
-within_told out done t f Stuck r = go (within_limits t) refl
+within_told out done t f None r = go (within_limits t) refl
   where
     go : (b : Bool) → within_limits t ≡ b → within_limits t ≡ false
     go true q = let l = limits_within t f q in absurd (r l.0 l.1 (omega (arith, l.2)))
@@ -32,7 +31,7 @@ root_ids : ids_in (at_root 64) ≡ []
 unfolding ids_from
 root_ids = refl
 
-pub right_written : (right bodies lengths out done : List ℕ) (r : Passed) → RightTold (at_root 64) 64 1 right 0 bodies lengths out 0 done r → RightWritten right bodies lengths out done r
+pub right_written : (right bodies lengths out done : List ℕ) (r : Option ℕ) → RightTold (at_root 64) 64 1 right 0 bodies lengths out 0 done r → RightWritten right bodies lengths out done r
 unfolding RightWritten RightTold
 right_written right bodies lengths out done r told vars k b p good one low same g =
     let s : RightStands vars k 0 1 right 0 p [] = record { good = good; low = omega (arith, low); wide = one; same = sym same ∙ sym (append-nil (words p)) } in

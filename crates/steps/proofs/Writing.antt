@@ -8,7 +8,7 @@ use native.Mathlib.Omega.{arith}
 use lib.Dec.{leb}
 use lib.ListN.{length, get_or}
 use borrow.Author.Tests.{leb-true, leb-false, le-leb, lt-leb, ltb-true}
-use Rattle.term.specs.declared.check.Checked.TheVariants.{Good}
+use Rattle.std.specs.Prelude.{Ok}
 use Rattle.term.specs.Word.{Head, symbol, abstraction, variable, pattern, count}
 use Rattle.term.specs.Row.{Row, nothing, node, width, Formed, ◌⧺◌}
 use Rattle.term.specs.Renumber.{GoodList, Listed, id_term, inside, renumber, to_term, to_body}
@@ -219,7 +219,7 @@ module _ (vars : ℕ) (b : ℕ → Row) (formed : (x : ℕ) → x < vars → For
       ∙ sym (ap (build b d) (left_of_pattern x c kids rest) ∙ build_hole b d x (ids_or (ids_of kids)) (left_of rest))
 
 -- so a match written back is the term again
-module _ (book : List ℕ) (accepted : check_book book ≡ Good) (number : ℕ) (rule : Rule) (found : rule_at book number ≡ some rule) where
+module _ (book : List ℕ) (accepted : check_book book ≡ Ok tt) (number : ℕ) (rule : Rule) (found : rule_at book number ≡ some rule) where
   facts : RuleFacts rule
   facts = book_rule book number rule accepted found
 

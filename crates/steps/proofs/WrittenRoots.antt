@@ -12,8 +12,7 @@ use Rattle.term.proofs.Laws.{kind_word, ident_word, kind_symbol, kind_abstractio
 use Rattle.fit.specs.Build.{start_of}
 use Rattle.fit.specs.Constraint.{tree}
 use Rattle.fit.proofs.Laws.{term_first}
-use Rattle.steps.specs.declared.aside.Root.{Root}
-use Rattle.steps.specs.declared.aside.Root.TheVariants.{Symbol, Other}
+use Rattle.std.specs.Prelude.{Option, None}
 use Rattle.steps.specs.Right.{shifted, single, replaced, in_body, write}
 use Rattle.steps.specs.Told.Told.{RightHead}
 use Rattle.steps.specs.Told.RightWalk.{BodiesStand, child_at, RightStands}
@@ -40,12 +39,6 @@ root_word_lem abstraction t = rw (ne_eqb (kind_of (word abstraction)) 0 (λ z. o
 root_word_lem (variable i) t = rw (ne_eqb (kind_of (word (variable i))) 0 (λ z. omega (arith, z, kind_word (variable i) t, kind_variable i)))
 root_word_lem (pattern x c) t = rw (ne_eqb (kind_of (word (pattern x c))) 0 (λ z. omega (arith, z, kind_word (pattern x c) t, kind_pattern x c)))
 
-pub root_symbol_lem : (w : ℕ) → kind_of w ≡ 0 → Symbol w ≡ root_of_word w
-root_symbol_lem w e = rw (eq-eqb (kind_of w) 0 e)
-
-pub root_other : (w kind : ℕ) → kind ≡ kind_of w → (kind ≡ 0 → ⊥) → Other ≡ root_of_word w
-root_other w kind e n = rw (ne_eqb (kind_of w) 0 (λ z. n (e ∙ z)))
-
 -- renumbering keeps it
 root_renumbered : (m : ℕ → ℕ → ℕ) (e : ℕ) (h : Head) → root_head (renumber_head m e h) ≡ root_head h
 root_renumbered m e (symbol i c) = ap root_head (renumber_symbol m e i c)
@@ -61,7 +54,7 @@ root_shifted e (node h kids rest) =
     ∙ root_renumbered (id_term e []) 0 h
     ∙ sym (root_node h kids rest)
 
-root_single : (i : ℕ) → root_is (single i) ≡ Other
+root_single : (i : ℕ) → root_is (single i) ≡ None
 root_single i = root_node (variable i) nothing nothing
 
 -- ---- a symbol, abstraction or variable of a right side is written as it stands
@@ -94,11 +87,11 @@ pattern_here vars k b (pattern x c) kids t r q =
     }
 
 module _ (right : List ℕ) (at : ℕ) (bodies lengths : List ℕ) where
-  pub root_ended : length right ≤ at → (r : Root) → RootTold right at bodies lengths r
+  pub root_ended : length right ≤ at → (r : Option ℕ) → RootTold right at bodies lengths r
   unfolding RootTold
   root_ended l r vars k b p after s g = absurd (omega (arith, l, (right_first vars k 0 right 1 at (λ z. omega (arith, z)) p after s).within))
 
-  pub root_plain : (w : ℕ) → w ≡ get_or right at 0 → (kind_of w ≡ 3 → ⊥) → (r : Root) → r ≡ root_of_word w → RootTold right at bodies lengths r
+  pub root_plain : (w : ℕ) → w ≡ get_or right at 0 → (kind_of w ≡ 3 → ⊥) → (r : Option ℕ) → r ≡ root_of_word w → RootTold right at bodies lengths r
   unfolding RootTold
   root_plain w e n r q vars k b p after s g =
       let x = one_tree vars k 0 right at p after s in
@@ -132,11 +125,11 @@ module _ (right : List ℕ) (at : ℕ) (bodies lengths : List ℕ) where
           below = rw h.within at o.below;
         }
 
-    pub root_strange : 16 ≤ ident_of (get_or right at 0) → (r : Root) → RootTold right at bodies lengths r
+    pub root_strange : 16 ≤ ident_of (get_or right at 0) → (r : Option ℕ) → RootTold right at bodies lengths r
     unfolding RootTold
     root_strange l r vars k b p after s g = let h = body_here_lem vars k b p after s in absurd (omega (arith, l, h.known, g.few))
 
-    pub root_none : length bodies ≤ start_of lengths (ident_of (get_or right at 0)) → (r : Root) → RootTold right at bodies lengths r
+    pub root_none : length bodies ≤ start_of lengths (ident_of (get_or right at 0)) → (r : Option ℕ) → RootTold right at bodies lengths r
     unfolding RootTold
     root_none l r vars k b p after s g =
         let h = body_here_lem vars k b p after s in
@@ -144,7 +137,7 @@ module _ (right : List ℕ) (at : ℕ) (bodies lengths : List ℕ) where
 
     -- the first word of the body
     module _ (v : ℕ) (there : v ≡ get_or bodies (start_of lengths (ident_of (get_or right at 0))) 0) where
-      pub root_body : (kind_of v ≡ 2 → ⊥) → (r : Root) → r ≡ root_of_word v → RootTold right at bodies lengths r
+      pub root_body : (kind_of v ≡ 2 → ⊥) → (r : Option ℕ) → r ≡ root_of_word v → RootTold right at bodies lengths r
       unfolding RootTold
       root_body n r q vars k b p after s g =
           let h = body_here_lem vars k b p after s in
@@ -165,7 +158,7 @@ module _ (right : List ℕ) (at : ℕ) (bodies lengths : List ℕ) where
             let m = in_body 0 (write b 0 h.kids) in
             h.writes ∙ ap (replaced m 0) o.is ∙ variable_tree m 0 o.head o.kids o.table (ap kind_of w ∙ two) ∙ ap (λ (y : ℕ). in_body 0 (write b 0 h.kids) 0 (ident_of y)) w
 
-        pub root_own : ident_of v ≡ 0 → RootTold right at bodies lengths Other
+        pub root_own : ident_of v ≡ 0 → RootTold right at bodies lengths None
         unfolding RootTold
         root_own z vars k b p after s g =
             let h = body_here_lem vars k b p after s in
@@ -175,7 +168,7 @@ module _ (right : List ℕ) (at : ℕ) (bodies lengths : List ℕ) where
             → width (write b 0 h.kids) ≡ count_of (get_or right at 0)
         wide_here vars k b p after h g = width_written vars b (λ y l. (g.body y l).one) k 0 h.kids h.below.good ∙ h.below.wide
 
-        pub root_outside : count_of (get_or right at 0) < ident_of v → RootTold right at bodies lengths Other
+        pub root_outside : count_of (get_or right at 0) < ident_of v → RootTold right at bodies lengths None
         unfolding RootTold
         root_outside l vars k b p after s g =
             let h = body_here_lem vars k b p after s in
@@ -183,7 +176,7 @@ module _ (right : List ℕ) (at : ℕ) (bodies lengths : List ℕ) where
             sym (ap root_is (stands_for vars k b p after h g ∙ in_outside 0 (write b 0 h.kids) 0 (ident_of v) (omega (arith, l, w)))
             ∙ root_single (ident_of v - width (write b 0 h.kids) + 0))
 
-        pub root_child : (ident_of v ≡ 0 → ⊥) → ident_of v ≤ count_of (get_or right at 0) → (to : ℕ) → to ≡ child_at right (at + 1) (ident_of v - 1) → (r : Root) → RootTold right to bodies lengths r → RootTold right at bodies lengths r
+        pub root_child : (ident_of v ≡ 0 → ⊥) → ident_of v ≤ count_of (get_or right at 0) → (to : ℕ) → to ≡ child_at right (at + 1) (ident_of v - 1) → (r : Option ℕ) → RootTold right to bodies lengths r → RootTold right at bodies lengths r
         unfolding RootTold
         root_child z l to e r told vars k b p after s g =
             let h = body_here_lem vars k b p after s in

@@ -1,15 +1,11 @@
 -- What rewriting at the root answers and leaves: document 01's and 02's numbers 12, 11, 14, 1, 18, 15, 13, in this order. A term that is rewritten is answered and left as one that is built.
-use Rattle.std.specs.Prelude.{ℕ, List}
+use Rattle.std.specs.Prelude.{ℕ, List, Result, Ok, Err}
 use Rattle.std.proofs.Math.Option.{Option, none, some}
-use Rattle.term.specs.declared.check.Checked.{Checked}
-use Rattle.term.specs.declared.check.Checked.TheVariants.{Good, Bad}
 use Rattle.term.specs.declared.answer.Answer.{Answer}
 use Rattle.term.specs.declared.answer.Answer.TheVariants.{NoFit, BadTerm, Damaged, CannotTake}
 use Rattle.term.specs.Answer.{Answered, answered}
 use Rattle.term.specs.Row.{Row, nothing}
 use Rattle.term.specs.Check.{check, term_limits}
-use Rattle.book.specs.declared.accept.Accepted.{Accepted}
-use Rattle.book.specs.declared.accept.Accepted.TheVariants.{Sound, Refused}
 use Rattle.book.specs.Accept.{accept}
 use Rattle.book.specs.Book.{Rule, rule_at}
 use Rattle.fit.specs.Match.{tree_of, left_in}
@@ -49,13 +45,13 @@ walked_root book t NoneFits = refused NoFit
 walked_root book t (RuleFits f n) = taken_root (many_aside book t f) (rewritten book t f)
 walked_root book t (DamagedAt at) = refused (Damaged at)
 
-abbrev pub root_with_term : List ℕ → List ℕ → List ℕ → Checked → Built
-root_with_term book table ws Good = walked_root book (tree_of ws) (walk (book_fits book) table (tree_of ws))
-root_with_term book table ws (Bad at) = refused (BadTerm at)
+abbrev pub root_with_term : List ℕ → List ℕ → List ℕ → Result (Unit {0}) ℕ → Built
+root_with_term book table ws (Ok _) = walked_root book (tree_of ws) (walk (book_fits book) table (tree_of ws))
+root_with_term book table ws (Err at) = refused (BadTerm at)
 
-abbrev pub root_with_book : List ℕ → List ℕ → List ℕ → Accepted → Built
-root_with_book book table ws Sound = root_with_term book table ws (check term_limits ws)
-root_with_book book table ws (Refused a) = refused a
+abbrev pub root_with_book : List ℕ → List ℕ → List ℕ → Result (Unit {0}) Answer → Built
+root_with_book book table ws (Ok _) = root_with_term book table ws (check term_limits ws)
+root_with_book book table ws (Err a) = refused a
 
 unfoldable pub rewrite_root : List ℕ → List ℕ → List ℕ → Built
 rewrite_root book table ws = root_with_book book table ws (accept book)
@@ -67,9 +63,9 @@ abbrev pub root_words : ℕ → List ℕ → List ℕ → List ℕ → List ℕ
 root_words room book table ws = build_words room (rewrite_root book table ws)
 
 -- the nodes that its one walk visited, "and zero before any walk"
-abbrev pub sound_visits : List ℕ → List ℕ → Accepted → ℕ
-sound_visits table ws Sound = term_visits (check term_limits ws) (visits table (tree_of ws))
-sound_visits table ws (Refused a) = 0
+abbrev pub sound_visits : List ℕ → List ℕ → Result (Unit {0}) Answer → ℕ
+sound_visits table ws (Ok _) = term_visits (check term_limits ws) (visits table (tree_of ws))
+sound_visits table ws (Err a) = 0
 
 unfoldable pub root_visits : (book tree term : List ℕ) → ℕ
 root_visits book table ws = sound_visits table ws (accept book)

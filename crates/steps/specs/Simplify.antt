@@ -1,7 +1,5 @@
 -- What simplifying answers and leaves: document 01's and 02's numbers 12, 11, 14, 18, 15, 13, an earlier step's before a later one's; 0 where no rule fits anywhere, 2 where the budget is used and a rule still fits.
-use Rattle.std.specs.Prelude.{ℕ, zero, suc, ◌+◌, List, [], ◌∷◌, leb, length, replicate}
-use Rattle.term.specs.declared.check.Checked.{Checked}
-use Rattle.term.specs.declared.check.Checked.TheVariants.{Good, Bad}
+use Rattle.std.specs.Prelude.{ℕ, zero, suc, ◌+◌, List, [], ◌∷◌, leb, length, replicate, Result, Ok, Err}
 use Rattle.term.specs.declared.answer.Answer.{Answer}
 use Rattle.term.specs.declared.answer.Answer.TheVariants.{Done, BudgetUsed, BadTerm, Short, Damaged}
 use Rattle.term.specs.Answer.{Answered, answered}
@@ -9,8 +7,6 @@ use Rattle.term.specs.Word.{pick}
 use Rattle.term.specs.Row.{Row, words}
 use Rattle.term.specs.Check.{check, term_limits}
 use Rattle.term.specs.Part.{padded}
-use Rattle.book.specs.declared.accept.Accepted.{Accepted}
-use Rattle.book.specs.declared.accept.Accepted.TheVariants as accepted
 use Rattle.book.specs.Accept.{accept}
 use Rattle.fit.specs.Match.{tree_of}
 use Rattle.steps.specs.Step.{Sought, Nowhere, FoundAt, Broken, lowest_offset, search_visits, Stepped, Rests, Becomes, Refused, step}
@@ -51,13 +47,13 @@ simplify_by book table zero t = budget_used t (search_visits book table t) (lowe
 simplify_by book table (suc budget) t = after_step (simplify_by book table budget) t (search_visits book table t) (step book table t)
 
 -- ---- what is asked, in order: the book, the term, the steps, the room
-abbrev pub run_with_term : List ℕ → List ℕ → ℕ → List ℕ → Checked → Run
-run_with_term book table budget ws Good = simplify_by book table budget (tree_of ws)
-run_with_term book table budget ws (Bad at) = Stopped [] 0 (BadTerm at)
+abbrev pub run_with_term : List ℕ → List ℕ → ℕ → List ℕ → Result (Unit {0}) ℕ → Run
+run_with_term book table budget ws (Ok _) = simplify_by book table budget (tree_of ws)
+run_with_term book table budget ws (Err at) = Stopped [] 0 (BadTerm at)
 
-abbrev pub run_with_book : List ℕ → List ℕ → ℕ → List ℕ → Accepted → Run
-run_with_book book table budget ws accepted.Sound = run_with_term book table budget ws (check term_limits ws)
-run_with_book book table budget ws (accepted.Refused a) = Stopped [] 0 a
+abbrev pub run_with_book : List ℕ → List ℕ → ℕ → List ℕ → Result (Unit {0}) Answer → Run
+run_with_book book table budget ws (Ok _) = run_with_term book table budget ws (check term_limits ws)
+run_with_book book table budget ws (Err a) = Stopped [] 0 a
 
 unfoldable pub simplify : List ℕ → List ℕ → ℕ → List ℕ → Run
 simplify book table budget ws = run_with_book book table budget ws (accept book)

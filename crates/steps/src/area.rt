@@ -8,18 +8,13 @@ ghost use Rattle.steps.specs.Told.Operations.{given_answer};
 use term::answer::Answer;
 use term::check::MOST_WORDS;
 use term::part::part_end;
-use term::renumber::Passed;
 
 // Copies all words of a slice to an offset of another.
 pub fn copy(from: &[u32], to: &mut [u32], at: usize)
     requires { at + length from.now ≤ length to.old }
     ensures { to.new ≡ paste to.old at from.now (length from.now) }
 {
-    let mut j: usize = 0;
-    while j < from.len() {
-        to[at + j] = from[j];
-        j += 1;
-    }
+    to[at..at + from.len()].copy_from_slice(from);
 }
 
 // Gives an answer with words into a cleared slice, where they have room.
@@ -35,18 +30,24 @@ pub fn give(answer: Answer, words: &[u32], out: &mut [u32]) -> Answer
 }
 
 // Puts the first n words of `new` for the part at an offset of the area's term, which has `size` words; what stands behind the part moves along.
-// Done with the size of the new term, Stuck where it is over the area.
-pub fn splice(area: &mut [u32], size: usize, at: usize, new: &mut [u32], n: usize) -> Passed
-    requires { (length area.old ≡ 4096) × (length new.old ≡ 4096) × (size ≤ 4096) × (at < size) × (n ≤ 4096) }
+// The size of the new term, none where it is over the area. Arrays with their sizes beside them, since there is no heap.
+pub fn splice(
+    area: &mut [u32; MOST_WORDS],
+    size: usize,
+    at: usize,
+    new: &mut [u32; MOST_WORDS],
+    n: usize,
+) -> Option<usize>
+    requires { (size ≤ 4096) × (at < size) × (n ≤ 4096) }
     ensures { SpliceTold (take size area.old) at (take n new.old) area.new result }
 {
     let end = at + part_end(&area[at..size]);
     let rest = size - end;
     let behind = n + rest;
     if MOST_WORDS - at < behind {
-        return Passed::Stuck;
+        return None;
     }
     copy(&area[end..size], new, n);
     copy(&new[..behind], area, at);
-    Passed::Done(at + behind)
+    Some(at + behind)
 }

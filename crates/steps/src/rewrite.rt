@@ -4,8 +4,8 @@ ghost use Rattle.term.specs.Answer.{answered};
 ghost use Rattle.steps.specs.Rewrite.{rewrite_root_came, rewrite_root_gives};
 
 use crate::area::give;
-use crate::rules::{BODIES, LENGTHS, Rewrote, ask, rewrite_at};
-use book::accept::Accepted;
+use crate::rules::{BODIES, ask, rewrite_at};
+use book::limits::MOST_VARS_LONG;
 use term::answer::Answer;
 use term::check::MOST_WORDS;
 use term::lent::clear;
@@ -13,7 +13,7 @@ use term::lent::clear;
 // The visits where nothing was walked.
 const NO_VISITS: u64 = 0;
 
-// The answer, and how many nodes the walk visited.
+// The answer, and how many nodes the walk visited. Not a Result: the contract of rewrite_root names both, at each answer.
 #[derive(Clone, Copy)]
 pub struct Rewritten {
     pub answer: Answer,
@@ -25,38 +25,26 @@ pub fn rewrite_root(book: &[u32], tree: &[u32], term: &[u32], out: &mut [u32]) -
     ensures { rewrite_root_came (answered result.answer) result.visits out.new ≡ rewrite_root_gives book.now tree.now term.now (length out.old) }
 {
     clear(out);
-    if let Accepted::Refused(answer) = ask(book, term) {
+    if let Err(answer) = ask(book, term) {
         return Rewritten {
             answer,
             visits: NO_VISITS,
         };
     }
     let mut bodies = [0u32; BODIES];
-    let mut lengths = [0u32; LENGTHS];
+    let mut lengths = [0u32; MOST_VARS_LONG];
     let mut area = [0u32; MOST_WORDS];
     let part = rewrite_at(book, tree, term, &mut bodies, &mut lengths, &mut area);
     let visits = part.visits;
-    let wrote = part.wrote;
-    match wrote {
-        Rewrote::None => Rewritten {
+    match part.came {
+        None => Rewritten {
             answer: Answer::NoFit,
             visits,
         },
-        Rewrote::Damaged(at) => Rewritten {
-            answer: Answer::Damaged(at),
-            visits,
-        },
-        Rewrote::Over => Rewritten {
-            answer: Answer::Over,
-            visits,
-        },
-        Rewrote::Wrote(n) => Rewritten {
+        Some(Ok(n)) => Rewritten {
             answer: give(Answer::Done, &area[..n], out),
             visits,
         },
-        Rewrote::CannotTake(n) => Rewritten {
-            answer: Answer::CannotTake(n),
-            visits,
-        },
+        Some(Err(answer)) => Rewritten { answer, visits },
     }
 }

@@ -8,7 +8,7 @@ const MOST_KEPT: usize = 256;
 // What an error's text puts behind the system's words.
 const NUMBER: &[u8] = b" (os error ";
 
-// The beginning of an error's text.
+// The beginning of an error's text. An array with its length beside it, since there is no heap.
 #[derive(Clone, Copy)]
 pub struct Reason {
     text: [u8; MOST_KEPT],
@@ -17,6 +17,7 @@ pub struct Reason {
 
 impl fmt::Write for Reason {
     fn write_str(&mut self, s: &str) -> fmt::Result {
+        // Byte by byte, each where there is room: no field says that the length is within the text.
         for b in s.as_bytes() {
             if self.length < MOST_KEPT {
                 self.text[self.length] = *b;
@@ -39,10 +40,12 @@ impl Reason {
 
     // The system's words alone.
     pub fn words(&self) -> &[u8] {
-        let mut end: usize = 0;
-        while end < MOST_KEPT && end < self.length && !self.text[end..].starts_with(NUMBER) {
-            end += 1;
+        // A loop: what find gives would have to be shown within the text before it is cut.
+        for end in 0..MOST_KEPT {
+            if self.length <= end || self.text[end..].starts_with(NUMBER) {
+                return &self.text[..end];
+            }
         }
-        &self.text[..end]
+        &self.text
     }
 }

@@ -1,75 +1,37 @@
 // Standard input and output, and what is said on standard error where they fail: in the words that a program lends, since they name it.
-ghost use Rattle.std.specs.Prelude.{length, IsTrue, IsFalse, OnOk};
+ghost use Rattle.std.specs.Prelude.{length, IsTrue, IsFalse};
 ghost use Rattle.std.specs.Io.KnownBytes.{Appends, Keeps};
-ghost use Rattle.streams.specs.Told.Told.{Within, CameIn, SomeCame};
+ghost use Rattle.streams.specs.Told.Told.{Within, CameIn};
 
 use crate::reason::Reason;
 use std::env::{Env, FillError};
 use std::io;
 use std::io::{Read, Write};
 
-// So many bytes came in, or a read failed, and why.
-#[derive(Clone, Copy)]
-pub enum Came {
-    Bytes(usize),
-    Failed(io::Error),
-}
-
-// One read into the lent bytes: none at the end of the input.
-fn read_some<R: Read>(input: &mut R, text: &mut [u8]) -> Came
-    ensures within { Within (length text.old) result }
-    ensures bytes { SomeCame (R.remaining input.old) (R.remaining input.new) text.new result }
-{
-    match input.read(text) {
-        Ok(n) => Came::Bytes(n),
-        Err(error) => Came::Failed(error),
-    }
-}
-
-// Reads to the end of the input, or until the lent bytes are full.
-pub fn read_all<R: Read>(input: &mut R, text: &mut [u8]) -> Came
+// Reads to the end of the input, or until the lent bytes are full: how many bytes came in.
+pub fn read_all<R: Read>(input: &mut R, text: &mut [u8]) -> io::Result<usize>
     ensures within { Within (length text.old) result }
     ensures bytes { CameIn (R.remaining input.old) (R.remaining input.new) text.new result }
 {
     let mut n: usize = 0;
+    // Only a read says how many bytes came in.
     while n < text.len() {
-        match read_some(input, &mut text[n..]) {
-            Came::Bytes(more) => {
-                if more == 0 {
-                    return Came::Bytes(n);
-                }
-                n = n + more;
-            }
-            Came::Failed(error) => {
-                return Came::Failed(error);
-            }
-        }
-    }
-    Came::Bytes(n)
-}
-
-// Writes all of the bytes, or stops at the first write that fails or takes nothing.
-fn write_whole<W: Write>(out: &mut W, bytes: &[u8]) -> io::Result<()>
-    ensures { OnOk result (Appends (W.contents out.old) (W.contents out.new) bytes.now) }
-{
-    let mut done: usize = 0;
-    while done < bytes.len() {
-        let more = out.write(&bytes[done..])?;
+        let more = input.read(&mut text[n..])?;
         if more == 0 {
-            return Err(io::Error::from(io::ErrorKind::WriteZero));
+            return Ok(n);
         }
-        done = done + more;
+        n += more;
     }
-    Ok(())
+    Ok(n)
 }
 
 // Writes a line: what failed, as the caller names it, a colon and the system's words for why. Where that fails too, nobody is left to tell.
 fn say_failed(said: &mut impl Write, name: &[u8], error: io::Error) {
     let reason = Reason::of(error);
-    let _named = write_whole(said, name).is_ok();
-    let _parted = write_whole(said, b": ").is_ok();
-    let _told = write_whole(said, reason.words()).is_ok();
-    let _ended = write_whole(said, b"\n").is_ok();
+    let _named = said.write_all(name).is_ok();
+    let _parted = said.write_all(b": ").is_ok();
+    let _told = said.write_all(reason.words()).is_ok();
+    let _ended = said.write_all(b"\n").is_ok();
 }
 
 // Says of the input with this name why a read failed.
@@ -82,7 +44,7 @@ pub fn print<W: Write, S: Write>(out: &mut W, said: &mut S, block: &[u8], output
     ensures whole { IsTrue result → Appends (W.contents out.old) (W.contents out.new) block.now }
     ensures silent { IsTrue result → Keeps (S.contents said.old) (S.contents said.new) }
 {
-    match write_whole(out, block) {
+    match out.write_all(block) {
         Ok(()) => true,
         Err(error) => {
             say_failed(said, output, error);
@@ -99,7 +61,7 @@ pub fn has_arguments<S: Write>(env: &impl Env, said: &mut S, usage: &[u8]) -> bo
     match env.arg(1, &mut first) {
         Err(FillError::NotPresent) => false,
         _ => {
-            let _said = write_whole(said, usage).is_ok();
+            let _said = said.write_all(usage).is_ok();
             true
         }
     }

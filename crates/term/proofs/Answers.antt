@@ -9,9 +9,9 @@ use native.Mathlib.Nat.{zero-add, sub-zero, suc-sub-suc}
 use lib.Dec.{leb, eqb}
 use lib.ListN.{length, drop, replicate, length-replicate, length-append, length-drop}
 use lib.Seq.{sets, sets-eq}
-use borrow.Author.Tests.{le-leb, lt-leb, leb-true, eqb-true, eq-eqb}
-use Rattle.term.specs.declared.part.Written.TheVariants.{Words, NoBody, Short}
-use Rattle.term.specs.declared.renumber.Passed.TheVariants.{Done, Stuck}
+use borrow.Author.Tests.{le-leb, lt-leb, leb-true, leb-false, eqb-true, eq-eqb}
+use Rattle.std.specs.Prelude.{Ok, Err, Some, None}
+use Rattle.term.specs.declared.part.Unwritten.TheVariants.{NoBody, Short}
 use Rattle.term.specs.Word.{pick}
 use Rattle.term.specs.Row.{Row, width, words, ranks, nesting, Formed, Got, read}
 use Rattle.term.specs.Check.{IsTerm}
@@ -83,13 +83,13 @@ pub cleared : (room n : ℕ) (last : List ℕ) → n ≡ room → last ≡ repli
 cleared room n last h e = e ∙ ap (λ (k : ℕ). replicate k 0) h
 
 module _ (room : ℕ) (ws : List ℕ) where
-  pub wrote : (out : List ℕ) → length ws ≤ room → out ≡ sets (replicate room 0) 0 ws → (Words (length ws) ≡ written room ws) × (out ≡ padded room ws)
+  pub wrote : (out : List ℕ) → length ws ≤ room → out ≡ sets (replicate room 0) 0 ws → (Ok (length ws) ≡ written room ws) × (out ≡ padded room ws)
   unfolding written padded
   wrote out h e =
       let s : 0 + length ws ≤ length {A = ℕ} (replicate room 0) = rw length-replicate (omega arith) in
       rw (le-leb (length ws) room h) (refl, e ∙ sets-eq ws (replicate room 0) 0 s ∙ rw (zero-add (length ws), drop_zeros (length ws) room h))
 
-  pub no_room : room < length ws → (Short ≡ written room ws) × (replicate room 0 ≡ padded room ws)
+  pub no_room : room < length ws → (Err Short ≡ written room ws) × (replicate room 0 ≡ padded room ws)
   unfolding written padded
   no_room h = rw (lt-leb (length ws) room h) (refl, refl)
 
@@ -100,7 +100,7 @@ module _ (d : ℕ) (ys ws : List ℕ) where
   no_list g = rw g
 
   module _ (g : good_list d ys ≡ true) (out done : List ℕ) where
-    pub told_body : (a : ℕ) → RowTold (id_body d ys) 0 64 1 ws 0 out done (Done a) → a ≤ 4096
+    pub told_body : (a : ℕ) → RowTold (id_body d ys) 0 64 1 ws 0 out done (Some a) → a ≤ 4096
         → (b : Row) × (body_of d ys ws ≡ some b) × (a ≡ length (words b)) × (done ≡ sets out 0 (words b))
     unfolding RowTold body_of closed
     told_body a told few =
@@ -111,11 +111,11 @@ module _ (d : ℕ) (ys ws : List ℕ) where
           told.5,
         )
 
-    pub told_long : (a : ℕ) → RowTold (id_body d ys) 0 64 1 ws 0 out done (Done a) → 4096 < a → body_of d ys ws ≡ none
+    pub told_long : (a : ℕ) → RowTold (id_body d ys) 0 64 1 ws 0 out done (Some a) → 4096 < a → body_of d ys ws ≡ none
     unfolding RowTold body_of
     told_long a told many = rw (g, part_long ws told.0 told.1 (omega (arith, told.4, many)) told.2)
 
-    pub told_none : RowTold (id_body d ys) 0 64 1 ws 0 out done Stuck → body_of d ys ws ≡ none
+    pub told_none : RowTold (id_body d ys) 0 64 1 ws 0 out done None → body_of d ys ws ≡ none
     unfolding RowTold body_of closed
     told_none told = rw g (found (part ws) refl)
       where
@@ -130,6 +130,13 @@ module _ (d : ℕ) (ys ws : List ℕ) where
   pub is_none : body_of d ys ws ≡ none → false ≡ has_body d ys ws
   unfolding has_body
   is_none e = sym (rw e)
+
+  pub told_closed : good_list d ys ≡ true → (out done : List ℕ) (a : ℕ) → RowTold (id_body d ys) 0 64 1 ws 0 out done (Some a) → leb a 4096 ≡ has_body d ys ws
+  told_closed g out done a told = go (leb a 4096) refl
+    where
+      go : (b : Bool) → leb a 4096 ≡ b → b ≡ has_body d ys ws
+      go true e = let b = told_body g out done a told (leb-true a 4096 e) in is_some_lem b.0 b.1
+      go false e = is_none (told_long g out done a told (leb-false a 4096 e))
 
   pub some_is : has_body d ys ws ≡ true → (b : Row) × (body_of d ys ws ≡ some b)
   unfolding has_body
@@ -150,25 +157,25 @@ module _ (d : ℕ) (ys ws : List ℕ) where
   -- what write_body answers and leaves, where its slice was cleared before the walk and after a refusal
   module _ (room : ℕ) where
     pub body_none : (out : List ℕ) → out ≡ replicate room 0 → body_of d ys ws ≡ none
-        → (NoBody ≡ body_answer room (body_of d ys ws)) × (out ≡ body_words room (body_of d ys ws))
+        → (Err NoBody ≡ body_answer room (body_of d ys ws)) × (out ≡ body_words room (body_of d ys ws))
     unfolding body_answer body_words
     body_none out z e = rw e (refl, z)
 
-    module _ (g : good_list d ys ≡ true) (out done : List ℕ) (n : ℕ) (z : out ≡ replicate room 0) (told : RowTold (id_body d ys) 0 64 1 ws 0 out done (Done n)) where
-      pub body_wrote : n ≤ 4096 → n ≤ room → (Words n ≡ body_answer room (body_of d ys ws)) × (done ≡ body_words room (body_of d ys ws))
+    module _ (g : good_list d ys ≡ true) (out done : List ℕ) (n : ℕ) (z : out ≡ replicate room 0) (told : RowTold (id_body d ys) 0 64 1 ws 0 out done (Some n)) where
+      pub body_wrote : n ≤ 4096 → n ≤ room → (Ok n ≡ body_answer room (body_of d ys ws)) × (done ≡ body_words room (body_of d ys ws))
       unfolding body_answer body_words
       body_wrote few h = shown (told_body g out done n told few)
         where
           shown : (b : Row) × (body_of d ys ws ≡ some b) × (n ≡ length (words b)) × (done ≡ sets out 0 (words b))
-              → (Words n ≡ body_answer room (body_of d ys ws)) × (done ≡ body_words room (body_of d ys ws))
+              → (Ok n ≡ body_answer room (body_of d ys ws)) × (done ≡ body_words room (body_of d ys ws))
           shown t = rw (t.1, t.2) (wrote room (words t.0) done (omega (arith, t.2)) (rw (← z) t.3))
 
-      pub body_short : n ≤ 4096 → room < n → (last : List ℕ) → last ≡ replicate room 0 → (Short ≡ body_answer room (body_of d ys ws)) × (last ≡ body_words room (body_of d ys ws))
+      pub body_short : n ≤ 4096 → room < n → (last : List ℕ) → last ≡ replicate room 0 → (Err Short ≡ body_answer room (body_of d ys ws)) × (last ≡ body_words room (body_of d ys ws))
       unfolding body_answer body_words
       body_short few h last l = shown (told_body g out done n told few)
         where
           shown : (b : Row) × (body_of d ys ws ≡ some b) × (n ≡ length (words b)) × (done ≡ sets out 0 (words b))
-              → (Short ≡ body_answer room (body_of d ys ws)) × (last ≡ body_words room (body_of d ys ws))
+              → (Err Short ≡ body_answer room (body_of d ys ws)) × (last ≡ body_words room (body_of d ys ws))
           shown t = let r = no_room room (words t.0) (omega (arith, t.2)) in rw t.1 (r.0, l ∙ r.1)
 
 -- ---- what a body of a part is

@@ -10,8 +10,7 @@ use lib.Dec.{eqb, ltb}
 use lib.ListN.{length, drop, get_or, set, length-set, drop_of_length-le}
 use lib.Seq.{drop-cons, get_or-set_same, get_or-set_other}
 use borrow.Author.Tests.{eqb-true, eqb-false, eq-eqb, ne_eqb, leb-true, ltb-true, ltb-false}
-use Rattle.term.specs.declared.image.Image.{Image}
-use Rattle.term.specs.declared.image.Image.TheVariants.{Word, None}
+use Rattle.std.specs.Prelude.{Option as StdOption, Some, None}
 use Rattle.term.specs.declared.same.Met.{Met}
 use Rattle.term.specs.declared.same.Met.TheVariants.{Both, Neither, Apart}
 use Rattle.term.specs.Word.{Head, pick, count, count_of, ident_of, head_of}
@@ -43,26 +42,26 @@ unfolding same_met
 met_none none = refl
 met_none (some us) = refl
 
-met_like : (v : ℕ) (o p : Option (List ℕ)) → same_met (ahead (Word v) o) (ahead (Word v) p) ≡ same_met o p
+met_like : (v : ℕ) (o p : Option (List ℕ)) → same_met (ahead (Some v) o) (ahead (Some v) p) ≡ same_met o p
 unfolding same_words same_met ahead
 met_like v none p = refl
 met_like v (some us) none = refl
 met_like v (some us) (some vs) = rw (eq-eqb v v refl)
 
-met_unlike : (i j : Image) (o p : Option (List ℕ)) → same_image i j ≡ false → same_met (ahead i o) (ahead j p) ≡ false
+met_unlike : (i j : StdOption ℕ) (o p : Option (List ℕ)) → same_image i j ≡ false → same_met (ahead i o) (ahead j p) ≡ false
 unfolding same_words same_image same_met ahead
 met_unlike None j o p e = refl
-met_unlike (Word v) None o p e = met_none (ahead (Word v) o)
-met_unlike (Word v) (Word u) none p e = refl
-met_unlike (Word v) (Word u) (some us) none e = refl
-met_unlike (Word v) (Word u) (some us) (some vs) e = rw e
+met_unlike (Some v) None o p e = met_none (ahead (Some v) o)
+met_unlike (Some v) (Some u) none p e = refl
+met_unlike (Some v) (Some u) (some us) none e = refl
+met_unlike (Some v) (Some u) (some us) (some vs) e = rw e
 
 -- the one image of two words
-like : (i j : Image) → same_image i j ≡ true → (v : ℕ) × (i ≡ Word v) × (j ≡ Word v)
+like : (i j : StdOption ℕ) → same_image i j ≡ true → (v : ℕ) × (i ≡ Some v) × (j ≡ Some v)
 unfolding same_image
 like None j q = never (cc)
-like (Word v) None q = never (cc)
-like (Word v) (Word u) q = (v, refl, ap Word (sym (eqb-true v u q)))
+like (Some v) None q = never (cc)
+like (Some v) (Some u) q = (v, refl, ap Some (sym (eqb-true v u q)))
 
 -- two words with one image have as many children, under as many abstractions
 count_of_lem : (m : ℕ → ℕ → ℕ) (e w v : ℕ) (i : Imaged m e w v) → count_of w ≡ count (renumber_head m e i.head)
@@ -245,7 +244,7 @@ module _ (d : ℕ) (ys ws : List ℕ) (c : ℕ) (zs vs : List ℕ) where
         entered h l q u j x i =
             shown (like (image_of (id_body d ys) around (head_of (get_or ws at 0))) (image_of (id_body c zs) around (head_of (get_or vs at 0))) q)
           where
-            shown : (v : ℕ) × (image_of (id_body d ys) around (head_of (get_or ws at 0)) ≡ Word v) × (image_of (id_body c zs) around (head_of (get_or vs at 0)) ≡ Word v)
+            shown : (v : ℕ) × (image_of (id_body d ys) around (head_of (get_or ws at 0)) ≡ Some v) × (image_of (id_body c zs) around (head_of (get_or vs at 0)) ≡ Some v)
                 → Rest (at + 1) (n + 1) (set (set left (n - 1) (get_or left (n - 1) 0 - 1)) n u) (set under n x)
             shown v =
                 let a = alike (id_body d ys) (id_body c zs) around (get_or ws at 0) (get_or vs at 0) v.0 (imaged (id_body d ys) around (get_or ws at 0) v.0 v.1) (imaged (id_body c zs) around (get_or vs at 0) v.0 v.2) in
@@ -265,9 +264,9 @@ module _ (d : ℕ) (ys ws : List ℕ) (c : ℕ) (zs vs : List ℕ) where
                 (met_like v.0 _ _)
 
 -- ---- two variables in parameter range
-abbrev at_parameter : ℕ → ℕ → Image
+abbrev at_parameter : ℕ → ℕ → StdOption ℕ
 at_parameter e zero = None
-at_parameter e (suc j) = Word (33554432 + (e + suc j))
+at_parameter e (suc j) = Some (33554432 + (e + suc j))
 
 pub record Inner (d e w : ℕ) : Type 0 where
   pub variable : rank_or 4 (head_of w) ≡ 2

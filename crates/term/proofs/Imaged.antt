@@ -10,7 +10,7 @@ use lib.ListN.{length, replicate}
 use lib.Seq.{sets}
 use borrow.Author.Tests.{leb-true, le-leb}
 use Rattle.term.specs.declared.image.Way.TheVariants.{ToTerm}
-use Rattle.term.specs.declared.renumber.Passed.TheVariants.{Done, Stuck}
+use Rattle.std.specs.Prelude.{Some, None}
 use Rattle.term.specs.Word.{Head, symbol, abstraction, variable, pattern, pick}
 use Rattle.term.specs.Row.{Row, nothing, node, words, nesting, ranks, Formed, Got, read}
 use Rattle.term.specs.Renumber.{Listed, id_term, id_term_within, inside, renumber_head, renumber, to_term, ids_within}
@@ -29,18 +29,18 @@ module _ (levels d : ℕ) (ys ws : List ℕ) where
 
   module _ (out : List ℕ) where
     -- from what the walk tells to what comes back
-    pub below_done : (done : List ℕ) (n : ℕ) → RowTold (image ToTerm d ys) 0 levels 1 ws 0 out done (Done n) → below_came (Done n) done ≡ write_below_gives levels d ys ws out
+    pub below_done : (done : List ℕ) (n : ℕ) → RowTold (image ToTerm d ys) 0 levels 1 ws 0 out done (Some n) → below_came (Some n) done ≡ write_below_gives levels d ys ws out
     unfolding RowTold ids_within image write_below_gives
     below_done done n told = rw (below_some told.0 told.1 told.2, told.3) (shown (to_term d ys told.0) (within_same d ys told.0 told.3))
       where
-        shown : (t : Row) → renumber (id_term_within d ys) 0 told.0 ≡ t → below_came (Done n) done ≡ below_came (Done (length (words t))) (sets out 0 (words t))
+        shown : (t : Row) → renumber (id_term_within d ys) 0 told.0 ≡ t → below_came (Some n) done ≡ below_came (Some (length (words t))) (sets out 0 (words t))
         shown t e =
             let l : n ≡ length (words t) = omega (arith, told.4, length_renumber (id_term_within d ys) 0 told.0, ap (λ (r : Row). length (words r)) e) in
-            ap₂ (λ (a : ℕ) (o : List ℕ). below_came (Done a) o) l (told.5 ∙ ap (λ (r : Row). sets out 0 (words r)) e)
+            ap₂ (λ (a : ℕ) (o : List ℕ). below_came (Some a) o) l (told.5 ∙ ap (λ (r : Row). sets out 0 (words r)) e)
 
-    pub below_stuck : (done last : List ℕ) → RowTold (image ToTerm d ys) 0 levels 1 ws 0 out done Stuck → last ≡ replicate (length out) 0 → below_came Stuck last ≡ write_below_gives levels d ys ws out
+    pub below_stuck : (done last : List ℕ) → RowTold (image ToTerm d ys) 0 levels 1 ws 0 out done None → last ≡ replicate (length out) 0 → below_came None last ≡ write_below_gives levels d ys ws out
     unfolding RowTold ids_within image write_below_gives term_below
-    below_stuck done last told z = rw (found (read 1 ws) refl) (ap (below_came Stuck) z)
+    below_stuck done last told z = rw (found (read 1 ws) refl) (ap (below_came None) z)
       where
         picked : (p : Row × List ℕ) → Reads 1 ws p.0 p.1 → (b : Bool) → leb (ranks p.0) 2 && (leb (nesting p.0) levels && ids_within d ys p.0) ≡ b
             → pick b (some (to_term d ys p.0)) none ≡ none
@@ -56,7 +56,7 @@ module _ (levels d : ℕ) (ys ws : List ℕ) where
         found (some p) e = picked p (words_read 1 ws p.0 p.1 e) _ refl
 
     -- and from what comes back to the words that stand there
-    pub below_wrote : (done : List ℕ) (n : ℕ) → below_came (Done n) done ≡ write_below_gives levels d ys ws out
+    pub below_wrote : (done : List ℕ) (n : ℕ) → below_came (Some n) done ≡ write_below_gives levels d ys ws out
         → (b : Row) × (after : List ℕ) × Stands levels 1 ws 0 b after × (ids_within d ys b ≡ true) × (n ≡ length (words b)) × (done ≡ sets out 0 (words (to_term d ys b)))
     unfolding write_below_gives term_below
     below_wrote done n told = found (read 1 ws) refl told
@@ -65,10 +65,10 @@ module _ (levels d : ℕ) (ys ws : List ℕ) where
         Wrote = (b : Row) × (after : List ℕ) × Stands levels 1 ws 0 b after × (ids_within d ys b ≡ true) × (n ≡ length (words b)) × (done ≡ sets out 0 (words (to_term d ys b)))
 
         picked : (p : Row × List ℕ) → Reads 1 ws p.0 p.1 → (b : Bool) → leb (ranks p.0) 2 && (leb (nesting p.0) levels && ids_within d ys p.0) ≡ b
-            → below_came (Done n) done ≡ wrote_below out (pick b (some (to_term d ys p.0)) none) → Wrote
+            → below_came (Some n) done ≡ wrote_below out (pick b (some (to_term d ys p.0)) none) → Wrote
         picked p r true e q =
             let k = and_right (leb (ranks p.0) 2) _ e in
-            let l : Done n ≡ Done (length (words (to_term d ys p.0))) = ap (λ (o : BelowOutcome). o.said) q in (
+            let l : Some n ≡ Some (length (words (to_term d ys p.0))) = ap (λ (o : BelowOutcome). o.said) q in (
               p.0,
               p.1,
               record { formed = r.formed; few = leb-true _ _ (and_left _ _ e); low = leb-true _ _ (and_left _ _ k); wide = r.wide; same = sym r.same },
@@ -76,19 +76,19 @@ module _ (levels d : ℕ) (ys ws : List ℕ) where
               (let z : n ≡ length (words (to_term d ys p.0)) = cc in z) ∙ (term_keeps d ys p.0).long,
               ap (λ (o : BelowOutcome). o.out) q,
             )
-        picked p r false e q = let l : Done n ≡ Stuck = ap (λ (o : BelowOutcome). o.said) q in never (cc)
+        picked p r false e q = let l : Some n ≡ None = ap (λ (o : BelowOutcome). o.said) q in never (cc)
 
-        found : (o : Got) → read 1 ws ≡ o → below_came (Done n) done ≡ wrote_below out (below_o levels d ys o) → Wrote
-        found none e q = let l : Done n ≡ Stuck = ap (λ (o : BelowOutcome). o.said) q in never (cc)
+        found : (o : Got) → read 1 ws ≡ o → below_came (Some n) done ≡ wrote_below out (below_o levels d ys o) → Wrote
+        found none e q = let l : Some n ≡ None = ap (λ (o : BelowOutcome). o.said) q in never (cc)
         found (some p) e q = picked p (words_read 1 ws p.0 p.1 e) _ refl q
 
     -- an id passes 65,535, or no such tree stands there
-    pub below_none : (done : List ℕ) → below_came Stuck done ≡ write_below_gives levels d ys ws out → (b : Row) (after : List ℕ) → Stands levels 1 ws 0 b after → ids_within d ys b ≡ false
+    pub below_none : (done : List ℕ) → below_came None done ≡ write_below_gives levels d ys ws out → (b : Row) (after : List ℕ) → Stands levels 1 ws 0 b after → ids_within d ys b ≡ false
     unfolding write_below_gives
     below_none done told b after s = go (ids_within d ys b) (rw (below_some b after s) at told)
       where
-        go : (x : Bool) → below_came Stuck done ≡ wrote_below out (pick x (some (to_term d ys b)) none) → x ≡ false
-        go true q = let l : Stuck ≡ Done (length (words (to_term d ys b))) = ap (λ (o : BelowOutcome). o.said) q in never (cc)
+        go : (x : Bool) → below_came None done ≡ wrote_below out (pick x (some (to_term d ys b)) none) → x ≡ false
+        go true q = let l : None ≡ Some (length (words (to_term d ys b))) = ap (λ (o : BelowOutcome). o.said) q in never (cc)
         go false q = refl
 
 -- ---- every variable of a row, node by node

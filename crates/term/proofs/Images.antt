@@ -10,7 +10,7 @@ use lib.ListN.{length, get_or}
 use borrow.Author.Tests.{le-leb, lt-leb, leb-true}
 use Rattle.term.specs.declared.image.Way.{Way}
 use Rattle.term.specs.declared.image.Way.TheVariants.{ToBody, ToTerm}
-use Rattle.term.specs.declared.image.Image.TheVariants.{Word, None}
+use Rattle.std.specs.Prelude.{Some, None}
 use Rattle.term.specs.Word.{Head, symbol, abstraction, variable, pattern, pick, kind, rank, count, ident, word, InTable, ident_of, kind_of, head_of}
 use Rattle.term.specs.Check.{rank_or}
 use Rattle.term.specs.Renumber.{position, parameter, three, id_term, id_body, within, id_term_within, inside, renumber_head, named_head}
@@ -79,11 +79,11 @@ module _ (m : ℕ → ℕ → ℕ) (e : ℕ) where
   image_none none h = refl
   image_none (some x) h = rw (lt-leb (rank x) 2 h)
 
-  pub image_other : (w : ℕ) (o : Option Head) → WordIs w o → rank_or 4 o ≤ 2 → (rank_or 4 o ≡ 2 → ⊥) → Word w ≡ image_of m e o
+  pub image_other : (w : ℕ) (o : Option Head) → WordIs w o → rank_or 4 o ≤ 2 → (rank_or 4 o ≡ 2 → ⊥) → Some w ≡ image_of m e o
   unfolding image_of named_head renumber_head rank
   image_other w none i h n = absurd (omega arith)
-  image_other w (some (symbol a c)) i h n = ap Word (sym i.0)
-  image_other w (some abstraction) i h n = ap Word (sym i.0)
+  image_other w (some (symbol a c)) i h n = ap Some (sym i.0)
+  image_other w (some abstraction) i h n = ap Some (sym i.0)
   image_other w (some (variable a)) i h n = absurd (n refl)
   image_other w (some (pattern a c)) i h n = absurd (omega arith)
 
@@ -97,7 +97,7 @@ module _ (m : ℕ → ℕ → ℕ) (e : ℕ) where
       let q : a ≡ ident_of w = omega (arith, i.0, i.1.1) in ap (λ (x : ℕ). some (variable x)) q
   variable_is w (some (pattern a c)) i h = absurd (omega arith)
 
-  pub image_variable : (w : ℕ) (o : Option Head) → WordIs w o → rank_or 4 o ≡ 2 → (i : ℕ) → i ≡ m e (ident_of w) → (i ≡ 0 → ⊥) → Word (33554432 + i) ≡ image_of m e o
+  pub image_variable : (w : ℕ) (o : Option Head) → WordIs w o → rank_or 4 o ≡ 2 → (i : ℕ) → i ≡ m e (ident_of w) → (i ≡ 0 → ⊥) → Some (33554432 + i) ≡ image_of m e o
   unfolding image_of named_head renumber_head kind rank word count ident
   image_variable w o g h i q n = sym (rw (variable_is w o g h, ← q, le-leb 1 i (omega (arith, n))))
 
@@ -113,11 +113,11 @@ module _ (m : ℕ → ℕ → ℕ) (e : ℕ) where
     pub some_id : named_head m e head ≡ true
     pub out : v ≡ word (renumber_head m e head)
 
-  pub imaged : (w v : ℕ) → image_of m e (head_of w) ≡ Word v → Imaged w v
+  pub imaged : (w v : ℕ) → image_of m e (head_of w) ≡ Some v → Imaged w v
   unfolding image_of
   imaged w v q = found (head_of w) refl q
     where
-      picked : (h : Head) (b : Bool) → leb (rank h) 2 && named_head m e h ≡ b → pick b (Word (word (renumber_head m e h))) None ≡ Word v → head_of w ≡ some h → Imaged w v
+      picked : (h : Head) (b : Bool) → leb (rank h) 2 && named_head m e h ≡ b → pick b (Some (word (renumber_head m e h))) None ≡ Some v → head_of w ≡ some h → Imaged w v
       picked h true r q s =
           record {
             head = h;
@@ -128,7 +128,7 @@ module _ (m : ℕ → ℕ → ℕ) (e : ℕ) where
           }
       picked h false r q s = never (cc)
 
-      found : (o : Option Head) → head_of w ≡ o → image_of m e o ≡ Word v → Imaged w v
+      found : (o : Option Head) → head_of w ≡ o → image_of m e o ≡ Some v → Imaged w v
       found none s q = never (cc)
       found (some h) s q = picked h (leb (rank h) 2 && named_head m e h) refl q s
 
@@ -137,7 +137,7 @@ module _ (m : ℕ → ℕ → ℕ) (e : ℕ) where
   unfolding image_of
   no_image h t l q = picked (named_head m e h) refl (rw (head_word_lem h t, le-leb (rank h) 2 l) at q)
     where
-      picked : (b : Bool) → named_head m e h ≡ b → pick b (Word (word (renumber_head m e h))) None ≡ None → named_head m e h ≡ false
+      picked : (b : Bool) → named_head m e h ≡ b → pick b (Some (word (renumber_head m e h))) None ≡ None → named_head m e h ≡ false
       picked true r q = never (cc)
       picked false r q = r
 

@@ -2,6 +2,8 @@
 
 -- Tests.
 pub use Rattle.term.proofs.Words.{never, and_left, and_right, and_both}
+-- What `get` tells of the word at an offset.
+pub use Rattle.term.proofs.Words.{word_there, words_past}
 -- Heads and words: a head of the table is read back from its word, and a word that is read gives itself back.
 pub use Rattle.term.proofs.Words.{head_word_lem, head_is_lem, kind_word, count_word_lem, ident_word}
 pub use Rattle.term.proofs.Images.{variable_word, inside_is, inside_small}

@@ -1,15 +1,18 @@
 -- The list of a pattern variable: positions, and that distinct ids within 1..d are at most d.
-use mathlib.Core.Path.{◌≡◌, refl, sym, ◌∙◌}
+use mathlib.Core.Path.{◌≡◌, refl, sym, ap, ◌∙◌}
 use mathlib.Core.Bool.{Bool, true, false, ◌&&◌}
 use mathlib.Core.List.{List, [], ◌∷◌}
 use mathlib.Core.Logic.{◌≢◌}
 use Prim.Native.Nat.{ℕ, zero, suc, ◌+◌, ◌-◌, ◌≤◌, ◌<◌}
 use native.Mathlib.Omega.{arith}
-use lib.Dec.{leb, eqb}
+use lib.Dec.{leb, ltb, eqb}
 use native.Mathlib.Numerals.{add-one}
 use lib.ListN.{length, get_or, take, drop, length-drop, drop_of_length-le}
 use lib.Seq.{drop-cons, take_all}
 use borrow.Author.Tests.{eqb-true, eqb-false, leb-true, eq-eqb, ne_eqb, le-leb, lt-leb}
+use Rattle.std.proofs.Common.{Option, Some, None, cond}
+use Rattle.std.specs.List.{position_from, position_or_len}
+use Rattle.std.proofs.lemmas.Iterator.Adapters.{position_from-zero}
 use Rattle.term.specs.Renumber.{position, position_b, Listed, GoodList, listed, good_list}
 use Rattle.term.proofs.Words.{and_left, and_right, and_both}
 
@@ -183,6 +186,25 @@ module _ (y : ℕ) (ys : List ℕ) (j : ℕ) where
       after zero q = omega arith
       after (suc p) q = omega arith
 
+-- std's position counts from 0
+abbrev pub counted_from_1 : Option ℕ → ℕ
+counted_from_1 None = 0
+counted_from_1 (Some j) = j + 1
+
+place_is : (y : ℕ) (i : ℕ) (ys : List ℕ) → counted_from_1 (position_from (λ x. eqb y x) i ys) ≡ later i (position y ys)
+unfolding position later
+place_is y i [] = refl
+place_is y i (z ∷ zs) = go (eqb y z) (place_is y (i + 1) zs)
+  where
+    go : (b : Bool) → counted_from_1 (position_from (λ x. eqb y x) (i + 1) zs) ≡ later (i + 1) (position y zs)
+        → counted_from_1 (cond b (Some i) (position_from (λ x. eqb y x) (i + 1) zs)) ≡ later i (position_b b (position y zs))
+    go true h = omega arith
+    go false h = h ∙ passed (position y zs)
+      where
+        passed : (p : ℕ) → later (i + 1) p ≡ later i (position_b false p)
+        passed zero = refl
+        passed (suc p) = omega arith
+
 pub sought_first : (y : ℕ) (ys : List ℕ) → position y ys ≡ later 0 (position y (drop 0 ys))
 unfolding later
 sought_first y ys = passed (position y ys)
@@ -190,6 +212,10 @@ sought_first y ys = passed (position y ys)
     passed : (p : ℕ) → p ≡ later 0 p
     passed zero = refl
     passed (suc p) = omega arith
+
+pub counted_position : (y : ℕ) (ys : List ℕ) (o : Option ℕ) → o ≡ cond (ltb (position_or_len (eqb y) ys) (length ys)) (Some (position_or_len (eqb y) ys)) None
+    → counted_from_1 o ≡ position y ys
+counted_position y ys o e = ap counted_from_1 (e ∙ position_from-zero (eqb y) ys) ∙ place_is y 0 ys ∙ sym (sought_first y ys)
 
 module _ (d : ℕ) (ys : List ℕ) (j : ℕ) (few : length ys ≤ 4) (rest : listed d ys ≡ listed d (drop j ys)) where
   pub too_small : j < length ys → get_or ys j 0 < 1 → false ≡ good_list d ys

@@ -6,7 +6,7 @@ use Prim.Native.Nat.{ℕ, zero, suc, ◌+◌, ◌-◌, ◌≤◌, ◌<◌}
 use native.Mathlib.Omega.{arith}
 use native.Mathlib.Nat.{suc-add, zero-add}
 use native.Mathlib.Numerals.{add-one}
-use lib.ListN.{length, drop, get_or, length-append, length-drop}
+use lib.ListN.{length, drop, get_or, length-append, length-drop, drop_of_length-le}
 use lib.Seq.{drop-cons, drop-append-add}
 use lib.Dec.{ltb}
 use borrow.Author.Tests.{ltb-true, ltb-false}
@@ -54,6 +54,10 @@ module _ (ws : List ℕ) (at n : ℕ) (rest : part_end ws ≡ at + past n (drop 
 
   pub passed_none : n ≡ 0 → at ≡ part_end ws
   passed_none z = sym (rest ∙ rw (z, past_none (drop at ws)) (omega arith))
+
+  pub passed_end : at ≡ length ws → length ws ≡ part_end ws
+  unfolding past
+  passed_end h = let e : part_end ws ≡ at + 0 = rw (drop_of_length-le ws {i = at} (omega arith)) at rest in omega arith
 
   pub passed_one : at < length ws → (n ≡ 0 → ⊥) → part_end ws ≡ at + 1 + past (count_of (get_or ws at 0) + (n - 1)) (drop (at + 1) ws)
   unfolding past

@@ -10,8 +10,7 @@ use native.Mathlib.Nat.{suc-add, zero-add, add-zero, le-max_left, le-max_right}
 use lib.ListN.{length, length-append}
 use lib.Dec.{leb, ltb}
 use borrow.Author.Tests.{lt-ltb, le-leb, leb-true, ltb-true}
-use Rattle.term.specs.declared.image.Image.{Image}
-use Rattle.term.specs.declared.image.Image.TheVariants.{Word, None}
+use Rattle.std.specs.Prelude.{Option as StdOption, Some, None}
 use Rattle.term.specs.Word.{Head, pick, rank, count, word, InTable, count_of, head_of}
 use Rattle.term.specs.Row.{Row, nothing, node, width, words, nesting, ranks, Formed}
 use Rattle.term.specs.Renumber.{good_list, id_body, inside, renumber_head, renumber, named_head, named, closed}
@@ -36,10 +35,10 @@ settle (level (suc k) e ∷ s) = level (suc k) e ∷ s
 abbrev pub near : ℕ → ℕ → Bool
 near at n = ltb at 4096 && leb n 64
 
-unfoldable pub ahead : Image → Option (List ℕ) → Option (List ℕ)
+unfoldable pub ahead : StdOption ℕ → Option (List ℕ) → Option (List ℕ)
 ahead None o = none
-ahead (Word v) none = none
-ahead (Word v) (some vs) = some (v ∷ vs)
+ahead (Some v) none = none
+ahead (Some v) (some vs) = some (v ∷ vs)
 
 -- the images of the words from offset `at` on, until no level is open; none where a word is missing, has none, or is not near
 unfoldable pub images : (ℕ → ℕ → ℕ) → ℕ → List Level → List ℕ → Option (List ℕ)
@@ -66,18 +65,18 @@ unfolding before
 before_before us vs none = refl
 before_before us vs (some ts) = ap some (sym (append_assoc us vs ts))
 
-ahead_before : (v : ℕ) (us : List ℕ) (o : Option (List ℕ)) → ahead (Word v) (before us o) ≡ before (v ∷ us) o
+ahead_before : (v : ℕ) (us : List ℕ) (o : Option (List ℕ)) → ahead (Some v) (before us o) ≡ before (v ∷ us) o
 unfolding ahead before
 ahead_before v us none = refl
 ahead_before v us (some ts) = refl
 
 module _ (m : ℕ → ℕ → ℕ) where
-  stepped : (at k e : ℕ) (s : List Level) (w : ℕ) (ws : List ℕ) (v : ℕ) → near at (suc (length s)) ≡ true → image_of m e (head_of w) ≡ Word v
-      → images m at (level k e ∷ s) (w ∷ ws) ≡ ahead (Word v) (images m (at + 1) (settle (level (count_of w) (inside_word w e) ∷ level (k - 1) e ∷ s)) ws)
+  stepped : (at k e : ℕ) (s : List Level) (w : ℕ) (ws : List ℕ) (v : ℕ) → near at (suc (length s)) ≡ true → image_of m e (head_of w) ≡ Some v
+      → images m at (level k e ∷ s) (w ∷ ws) ≡ ahead (Some v) (images m (at + 1) (settle (level (count_of w) (inside_word w e) ∷ level (k - 1) e ∷ s)) ws)
   unfolding images
   stepped at k e s w ws v n i = rw (n, i)
 
-  image_of_lem : (e : ℕ) (h : Head) → InTable h → rank h ≤ 2 → named_head m e h ≡ true → image_of m e (head_of (word h)) ≡ Word (word (renumber_head m e h))
+  image_of_lem : (e : ℕ) (h : Head) → InTable h → rank h ≤ 2 → named_head m e h ≡ true → image_of m e (head_of (word h)) ≡ Some (word (renumber_head m e h))
   unfolding image_of
   image_of_lem e h t k n = rw (head_word_lem h t, le-leb (rank h) 2 k, n)
 
@@ -161,13 +160,13 @@ module _ (m : ℕ → ℕ → ℕ) where
   ParsedO at s ws none = Unit {0}
   ParsedO at s ws (some us) = Parsed at s ws
 
-  built_on : (at k e : ℕ) (s : List Level) (w : ℕ) (ws : List ℕ) (b : Bool) (i : Image) (o : Option (List ℕ)) → 1 ≤ k → near at (suc (length s)) ≡ b → image_of m e (head_of w) ≡ i
+  built_on : (at k e : ℕ) (s : List Level) (w : ℕ) (ws : List ℕ) (b : Bool) (i : StdOption ℕ) (o : Option (List ℕ)) → 1 ≤ k → near at (suc (length s)) ≡ b → image_of m e (head_of w) ≡ i
       → (at + 1 ≤ 4096 → length s ≤ 63 → ParsedO (at + 1) (level (count_of w) (inside_word w e) ∷ level (k - 1) e ∷ s) ws o) → ParsedO at (level k e ∷ s) (w ∷ ws) (pick b (ahead i o) none)
   unfolding ahead
   built_on at k e s w ws false i o l n q p = tt
   built_on at k e s w ws true None o l n q p = tt
-  built_on at k e s w ws true (Word v) none l n q p = tt
-  built_on at k e s w ws true (Word v) (some us) l n q p =
+  built_on at k e s w ws true (Some v) none l n q p = tt
+  built_on at k e s w ws true (Some v) (some us) l n q p =
       let a = ltb-true at 4096 (and_left (ltb at 4096) _ n) in
       let d = leb-true (suc (length s)) 64 (and_right (ltb at 4096) _ n) in
       built at k e s w ws v l d (imaged m e w v q) (p (omega arith) (omega arith))

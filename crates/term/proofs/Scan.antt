@@ -9,7 +9,7 @@ use lib.ListN.{length, drop, get_or, set, length-set}
 use lib.Seq.{drop-cons, drop-length, get_or-set_same, get_or-set_other}
 use lib.Dec.{leb, ltb}
 use borrow.Author.Tests.{leb-true}
-use Rattle.term.specs.declared.check.Checked.TheVariants.{Good, Bad}
+use Rattle.std.specs.Prelude.{Ok, Err}
 use Rattle.term.specs.Word.{count_of, head_of}
 use Rattle.term.specs.Check.{Limits, rank_or, may_stand, scan, settle, check}
 use Rattle.term.proofs.Words.{and_left, and_right}
@@ -75,11 +75,11 @@ module _ (limits : Limits) (ws : List ℕ) where
   Rest at n left = check limits ws ≡ scan limits at (settle (levels n left)) (drop at ws)
 
   module _ (at n : ℕ) (left : List ℕ) (rest : Rest at n left) where
-    pub whole : n ≡ 0 → at ≡ length ws → Good ≡ check limits ws
+    pub whole : n ≡ 0 → at ≡ length ws → Ok tt ≡ check limits ws
     unfolding settle levels scan
     whole z e = sym (rest ∙ rw (z, e, drop-length))
 
-    pub more : n ≡ 0 → at < length ws → Bad at ≡ check limits ws
+    pub more : n ≡ 0 → at < length ws → Err at ≡ check limits ws
     unfolding settle levels scan
     more z h = sym (rest ∙ rw (z, drop-cons ws at 0 h))
 
@@ -90,11 +90,11 @@ module _ (limits : Limits) (ws : List ℕ) where
       depth : length (get_or left (n - 1) 0 ∷ levels (n - 1) left) ≡ n
       depth = omega (arith, length_levels (n - 1) left, z)
 
-      pub run_out : at ≡ length ws → Bad at ≡ check limits ws
+      pub run_out : at ≡ length ws → Err at ≡ check limits ws
       unfolding scan
       run_out e = sym (open_level ∙ rw (e, drop-length))
 
-      pub refused : at < length ws → may_stand limits at n (get_or ws at 0) ≡ false → Bad at ≡ check limits ws
+      pub refused : at < length ws → may_stand limits at n (get_or ws at 0) ≡ false → Err at ≡ check limits ws
       unfolding scan
       refused h e = sym (open_level ∙ rw (drop-cons ws at 0 h, depth, e))
 

@@ -1,15 +1,17 @@
 -- From the lengths that the code wrote to what the operations on tables answer and leave: a good list of words is one formed tree, whose table they are.
 use mathlib.Core.Path.{◌≡◌, refl, sym, ap, ◌∙◌}
-use mathlib.Core.Bool.{Bool, true, false}
+use mathlib.Core.Bool.{Bool, true, false, not, cond}
 use mathlib.Core.List.{List, [], ◌∷◌}
-use Prim.Native.Nat.{ℕ, suc, ◌+◌, ◌≤◌, ◌<◌}
+use Prim.Native.Nat.{ℕ, suc, min, ◌+◌, ◌≤◌, ◌<◌}
 use native.Mathlib.Omega.{arith}
 use native.Mathlib.Numerals.{add-one}
-use lib.Dec.{eqb}
-use lib.ListN.{length, take, drop, get_or, replicate, length-replicate, drop_of_length-le}
-use lib.Seq.{sets, sets-eq, drop-cons, take-append_seam}
+use lib.Dec.{ltb, eqb}
+use lib.ListN.{length, take, drop, replicate, length-replicate}
+use lib.Seq.{sets, sets-eq, take-append_seam}
 use borrow.Author.Tests.{le-leb, lt-leb, eq-eqb, ne_eqb, eqb-true}
-use Rattle.term.specs.declared.check.Checked.TheVariants.{Good, Bad}
+use Rattle.std.specs.Prelude.{Ok, Err, Option, Some, None}
+use Rattle.std.specs.List.{position_from, position_or_len, zip}
+use Rattle.std.proofs.lemmas.Iterator.Adapters.{position_from-zero}
 use Rattle.term.specs.declared.answer.Answer.{Answer}
 use Rattle.term.specs.declared.answer.Answer.TheVariants.{Done, BadTerm, Short, Disagree}
 use Rattle.term.specs.Answer.{answered}
@@ -28,22 +30,22 @@ pub term_table : (ws : List ℕ) (i : IsTerm ws) → table_of ws ≡ lengths_of 
 unfolding table_of
 term_table ws i = rw (term_part ws i)
 
-good_table : (ws : List ℕ) → check term_limits ws ≡ Good → table_of ws ≡ part_lengths ws
+good_table : (ws : List ℕ) → check term_limits ws ≡ Ok tt → table_of ws ≡ part_lengths ws
 good_table ws g = shown (good_tree term_limits (omega arith) ws g)
   where
     shown : IsTerm ws → table_of ws ≡ part_lengths ws
     shown i = term_table ws i ∙ sym (lengths_parts i.tree i.formed) ∙ ap part_lengths (sym i.same)
 
-pub good_few : (ws : List ℕ) → check term_limits ws ≡ Good → length ws ≤ 4096
+pub good_few : (ws : List ℕ) → check term_limits ws ≡ Ok tt → length ws ≤ 4096
 good_few ws g = (good_tree term_limits (omega arith) ws g).short
 
 -- ---- what making a table answers and leaves
 module _ (ws : List ℕ) (room : ℕ) (out : List ℕ) (z : out ≡ replicate room 0) where
-  pub lengths_bad : (at : ℕ) → check term_limits ws ≡ Bad at → lengths_came (answered (BadTerm at)) out ≡ lengths_gives ws room
+  pub lengths_bad : (at : ℕ) → check term_limits ws ≡ Err at → lengths_came (answered (BadTerm at)) out ≡ lengths_gives ws room
   unfolding lengths_gives
   lengths_bad at b = rw (b, z)
 
-  module _ (g : check term_limits ws ≡ Good) where
+  module _ (g : check term_limits ws ≡ Ok tt) where
     pub lengths_short : room < length ws → lengths_came (answered Short) out ≡ lengths_gives ws room
     unfolding lengths_gives
     lengths_short h =
@@ -56,32 +58,43 @@ module _ (ws : List ℕ) (room : ℕ) (out : List ℕ) (z : out ≡ replicate ro
         let l : length (part_lengths ws) ≤ room = omega (arith, part_lengths_many ws, h) in
         rw (g, good_table ws g, le-leb (length (part_lengths ws)) room l, (wrote room (part_lengths ws) done l (rw z at e)).1)
 
--- ---- the loop of agree: what is left of both tables gives the answer
-module _ (right table : List ℕ) (at : ℕ) where
-  abbrev pub Agrees : Type 0
-  Agrees = agreed 0 right table ≡ agreed at (drop at right) (drop at table)
+-- ---- agree: where the first pair of entries differs, or which table ends first
+abbrev differ : ℕ × ℕ → Bool
+differ p = not (eqb p.0 p.1)
 
-  module _ (rest : Agrees) where
-    pub entry_missing : at < length right → length table ≤ at → Disagree at ≡ agreed 0 right table
-    unfolding agreed
-    entry_missing h l = sym (rest ∙ rw (drop-cons right at 0 h, drop_of_length-le table {i = at} l))
+abbrev pub told : Option ℕ → ℕ → ℕ → Answer
+told (Some k) n m = Disagree k
+told None n m = pick (eqb n m) Done (Disagree (min n m))
 
-    pub entry_surplus : length right ≤ at → at < length table → Disagree at ≡ agreed 0 right table
-    unfolding agreed
-    entry_surplus h l = sym (rest ∙ rw (drop_of_length-le right {i = at} h, drop-cons table at 0 l))
+pub none_same : (n m : ℕ) → n ≡ m → Done ≡ told None n m
+none_same n m e = sym (rw (eq-eqb n m e))
 
-    pub entries_all : length right ≤ at → length table ≤ at → Done ≡ agreed 0 right table
-    unfolding agreed
-    entries_all h l = sym (rest ∙ rw (drop_of_length-le right {i = at} h, drop_of_length-le table {i = at} l))
+pub none_other : (n m : ℕ) → (n ≡ m → ⊥) → Disagree (min n m) ≡ told None n m
+none_other n m e = sym (rw (ne_eqb n m e))
 
-    module _ (h : at < length right) (l : at < length table) where
-      pub entry_wrong : (get_or right at 0 ≡ get_or table at 0 → ⊥) → Disagree at ≡ agreed 0 right table
-      unfolding agreed
-      entry_wrong n = sym (rest ∙ rw (drop-cons right at 0 h, drop-cons table at 0 l, ne_eqb (get_or right at 0) (get_or table at 0) n))
+agreed_told : (at : ℕ) (ns ms : List ℕ) → told (position_from differ at (zip ns ms)) (at + length ns) (at + length ms) ≡ agreed at ns ms
+unfolding agreed
+agreed_told at [] [] = rw (eq-eqb (at + 0) (at + 0) refl)
+agreed_told at [] (m ∷ ms) = rw (ne_eqb (at + 0) (at + suc (length ms)) (λ e. omega (arith, e))) (ap Disagree (omega arith))
+agreed_told at (n ∷ ns) [] = rw (ne_eqb (at + suc (length ns)) (at + 0) (λ e. omega (arith, e))) (ap Disagree (omega arith))
+agreed_told at (n ∷ ns) (m ∷ ms) = go (eqb n m) (agreed_told (at + 1) ns ms)
+  where
+    go : (b : Bool) → told (position_from differ (at + 1) (zip ns ms)) (at + 1 + length ns) (at + 1 + length ms) ≡ agreed (at + 1) ns ms
+        → told (cond (not b) (Some at) (position_from differ (at + 1) (zip ns ms))) (at + suc (length ns)) (at + suc (length ms))
+        ≡ pick b (agreed (suc at) ns ms) (Disagree at)
+    go true e =
+        let a : at + suc (length ns) ≡ at + 1 + length ns = omega arith in
+        let b : at + suc (length ms) ≡ at + 1 + length ms = omega arith in
+        rw (a, b, ← add-one at) e
+    go false e = refl
 
-      pub entry_right : get_or right at 0 ≡ get_or table at 0 → agreed 0 right table ≡ agreed (at + 1) (drop (at + 1) right) (drop (at + 1) table)
-      unfolding agreed
-      entry_right e = rest ∙ rw (add-one at, drop-cons right at 0 h, drop-cons table at 0 l, eq-eqb (get_or right at 0) (get_or table at 0) e)
+pub agreed_found : (ns ms : List ℕ) (o : Option ℕ)
+    → o ≡ cond (ltb (position_or_len (λ (p : ℕ × ℕ). not (eqb p.0 p.1)) (zip ns ms)) (length (zip ns ms))) (Some (position_or_len (λ (p : ℕ × ℕ). not (eqb p.0 p.1)) (zip ns ms))) None
+    → told o (length ns) (length ms) ≡ agreed 0 ns ms
+agreed_found ns ms o e =
+    let a : 0 + length ns ≡ length ns = omega arith in
+    let b : 0 + length ms ≡ length ms = omega arith in
+    rw (e, position_from-zero differ (zip ns ms)) (rw (a, b) at (agreed_told 0 ns ms))
 
 -- two tables agree just where they are the same
 pub agreed_same : (at : ℕ) (ns ms : List ℕ) → agreed at ns ms ≡ Done → ns ≡ ms
@@ -101,14 +114,14 @@ same_agreed at [] = refl
 same_agreed at (n ∷ ns) = rw (eq-eqb n n refl) (same_agreed (suc at) ns)
 
 -- ---- what checking a table answers
-pub check_lengths_bad : (ws table : List ℕ) (at : ℕ) → check term_limits ws ≡ Bad at → answered (BadTerm at) ≡ check_lengths_gives ws table
+pub check_lengths_bad : (ws table : List ℕ) (at : ℕ) → check term_limits ws ≡ Err at → answered (BadTerm at) ≡ check_lengths_gives ws table
 unfolding check_lengths_gives
 check_lengths_bad ws table at b = rw b
 
 first_entries : (vs l : List ℕ) → length vs ≤ length l → take (length vs) (sets l 0 vs) ≡ vs
 first_entries vs l h = rw (sets-eq vs l 0 (omega arith)) (take-append_seam vs (drop (0 + length vs) l))
 
-pub check_lengths_good : (ws table right : List ℕ) (a : Answer) → check term_limits ws ≡ Good → right ≡ sets (replicate 4096 0) 0 (part_lengths ws)
+pub check_lengths_good : (ws table right : List ℕ) (a : Answer) → check term_limits ws ≡ Ok tt → right ≡ sets (replicate 4096 0) 0 (part_lengths ws)
     → a ≡ agreed 0 (take (length ws) right) table → answered a ≡ check_lengths_gives ws table
 unfolding check_lengths_gives
 check_lengths_good ws table right a g r e = rw (g, e, good_table ws g, table_of_lem)

@@ -9,7 +9,7 @@ use native.Mathlib.Nat.{suc-add, zero-add, add-zero, le-max_left, le-max_right}
 use lib.ListN.{length, length-append}
 use lib.Dec.{leb}
 use borrow.Author.Tests.{lt-ltb, le-leb, leb-true, ltb-true}
-use Rattle.term.specs.declared.check.Checked.TheVariants.{Good, Bad}
+use Rattle.std.specs.Prelude.{Ok, Err}
 use Rattle.term.specs.Word.{Head, pick, rank, count, word, InTable, count_of, head_of}
 use Rattle.term.specs.Row.{Row, nothing, node, width, words, nesting, ranks, Formed}
 use Rattle.term.specs.Check.{Limits, IsTree, rank_or, may_stand, settle, scan, check}
@@ -40,7 +40,7 @@ module _ (limits : Limits) where
       (passed kids (at + 1) 0 ((width rest + n) ∷ s) (words rest ++ t) p.2 (omega arith) (omega arith) (omega arith)
       ∙ passed rest (at + 1 + length (words kids)) n s t p.3 (omega arith) (omega arith) (omega arith))
 
-  pub tree_good : (ws : List ℕ) → IsTree limits ws → check limits ws ≡ Good
+  pub tree_good : (ws : List ℕ) → IsTree limits ws → check limits ws ≡ Ok tt
   unfolding check scan settle
   tree_good ws i =
       let l : length (words i.tree) ≤ limits.length = rw i.same at i.short in
@@ -101,17 +101,17 @@ module _ (limits : Limits) (few : limits.ranks ≤ 3) where
             near = ltb-true _ _ (and_right (leb n limits.nesting) _ r);
           }
 
-  -- what a scan that ends in Good went through
+  -- what a scan that finds one tree went through
   record Passed (at k : ℕ) (s : List ℕ) (w : ℕ) (ws : List ℕ) : Type 0 where
     here : Stood limits at (length (k ∷ s)) w
-    next : scan limits (at + 1) (settle (count_of w ∷ (k - 1) ∷ s)) ws ≡ Good
+    next : scan limits (at + 1) (settle (count_of w ∷ (k - 1) ∷ s)) ws ≡ Ok tt
 
-  went : (at k : ℕ) (s : List ℕ) (w : ℕ) (ws : List ℕ) → scan limits at (k ∷ s) (w ∷ ws) ≡ Good → Passed at k s w ws
+  went : (at k : ℕ) (s : List ℕ) (w : ℕ) (ws : List ℕ) → scan limits at (k ∷ s) (w ∷ ws) ≡ Ok tt → Passed at k s w ws
   unfolding scan
   went at k s w ws g = picked (may_stand limits at (length (k ∷ s)) w) refl g
     where
       picked : (b : Bool) → may_stand limits at (length (k ∷ s)) w ≡ b
-          → pick b (scan limits (at + 1) (settle (count_of w ∷ (k - 1) ∷ s)) ws) (Bad at) ≡ Good → Passed at k s w ws
+          → pick b (scan limits (at + 1) (settle (count_of w ∷ (k - 1) ∷ s)) ws) (Err at) ≡ Ok tt → Passed at k s w ws
       picked true e g = record { here = stood at (length (k ∷ s)) w e; next = g }
       picked false e g = never (cc)
 
@@ -130,7 +130,7 @@ module _ (limits : Limits) (few : limits.ranks ≤ 3) where
         r.7,
       )
 
-  parsed : (ws : List ℕ) (at : ℕ) (s : List ℕ) → Open limits s → scan limits at s ws ≡ Good → Parsed limits s ws
+  parsed : (ws : List ℕ) (at : ℕ) (s : List ℕ) → Open limits s → scan limits at s ws ≡ Ok tt → Parsed limits s ws
   unfolding scan Parsed Open
   parsed [] at [] o g = refl
   parsed [] at (k ∷ s) o g = never (cc)
@@ -140,7 +140,7 @@ module _ (limits : Limits) (few : limits.ranks ≤ 3) where
       built at k s w ws o i.here
       (unsettle limits (count_of w ∷ (k - 1) ∷ s) ws (omega (arith, i.here.low)) (parsed ws (at + 1) (settle (count_of w ∷ (k - 1) ∷ s)) (settle_open limits (count_of w ∷ (k - 1) ∷ s)) i.next))
 
-  few_words : (ws : List ℕ) (at : ℕ) (s : List ℕ) → at ≤ limits.length → scan limits at s ws ≡ Good → at + length ws ≤ limits.length
+  few_words : (ws : List ℕ) (at : ℕ) (s : List ℕ) → at ≤ limits.length → scan limits at s ws ≡ Ok tt → at + length ws ≤ limits.length
   unfolding scan
   few_words [] at s a g = omega arith
   few_words (w ∷ ws) at [] a g = never (cc)
@@ -148,7 +148,7 @@ module _ (limits : Limits) (few : limits.ranks ≤ 3) where
       let i = went at k s w ws g in
       omega (arith, few_words ws (at + 1) (settle (count_of w ∷ (k - 1) ∷ s)) (omega (arith, i.here.near)) i.next)
 
-  pub good_tree : (ws : List ℕ) → check limits ws ≡ Good → IsTree limits ws
+  pub good_tree : (ws : List ℕ) → check limits ws ≡ Ok tt → IsTree limits ws
   unfolding check Parsed settle
   good_tree ws g =
       let p = parsed ws 0 (1 ∷ []) (settle_open limits (1 ∷ [])) g in

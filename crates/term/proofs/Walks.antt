@@ -9,9 +9,7 @@ use native.Mathlib.Nat.{add-zero, suc-add, add-suc, le-max_left, le-max_right}
 use native.Mathlib.Numerals.{add-one}
 use lib.ListN.{length, drop, get_or, set, length-append, length-drop}
 use lib.Seq.{sets, drop-cons, drop-drop, drop_at}
-use Rattle.term.specs.declared.image.Image.TheVariants.{Word, None}
-use Rattle.term.specs.declared.renumber.Passed.{Passed}
-use Rattle.term.specs.declared.renumber.Passed.TheVariants.{Done, Stuck}
+use Rattle.std.specs.Prelude.{Some, None, Option}
 use Rattle.term.specs.Word
 use Rattle.term.specs.Word.{Head, rank, word, InTable, count_of, head_of}
 use Rattle.term.specs.Row.{Row, nothing, node, width, words, nesting, ranks, Formed}
@@ -116,22 +114,22 @@ and_false_right true b e = e
 and_false_right false b e = refl
 
 module _ (m : ℕ → ℕ → ℕ) (e levels count : ℕ) (ws : List ℕ) (at : ℕ) (out : List ℕ) where
-  pub row_done : count ≡ 0 → RowTold m e levels count ws at out out (Done at)
+  pub row_done : count ≡ 0 → RowTold m e levels count ws at out out (Some at)
   unfolding RowTold words width Formed nesting ranks renumber named
   row_done z =
       (nothing, drop at ws, record { formed = tt; few = omega arith; low = omega arith; wide = sym z; same = refl }, refl, omega arith, refl)
 
   module _ (z : count ≡ 0 → ⊥) where
-    pub row_deep : (done : List ℕ) → levels ≡ 0 → RowTold m e levels count ws at out done Stuck
+    pub row_deep : (done : List ℕ) → levels ≡ 0 → RowTold m e levels count ws at out done None
     unfolding RowTold
     row_deep done l f after s = absurd (omega (arith, l, (first levels count ws at z f after s).levelled))
 
-    pub row_ended : (done : List ℕ) → length ws ≤ at → RowTold m e levels count ws at out done Stuck
+    pub row_ended : (done : List ℕ) → length ws ≤ at → RowTold m e levels count ws at out done None
     unfolding RowTold
     row_ended done l f after s = absurd (omega (arith, l, (first levels count ws at z f after s).within))
 
     -- the word has no image
-    pub row_no_image : (done : List ℕ) → image_of m e (head_of (get_or ws at 0)) ≡ None → RowTold m e levels count ws at out done Stuck
+    pub row_no_image : (done : List ℕ) → image_of m e (head_of (get_or ws at 0)) ≡ None → RowTold m e levels count ws at out done None
     unfolding RowTold named
     row_no_image done q f after s = shown (first levels count ws at z f after s)
       where
@@ -140,15 +138,15 @@ module _ (m : ℕ → ℕ → ℕ) (e levels count : ℕ) (ws : List ℕ) (at : 
             rw g.is
             (and_false_left (named_head m e g.head) _ (no_image m e g.head g.table g.low (rw g.word_is q)))
 
-    module _ (v : ℕ) (q : image_of m e (head_of (get_or ws at 0)) ≡ Word v) (l : 1 ≤ levels) (w : at < length ws) (done : List ℕ) where
+    module _ (v : ℕ) (q : image_of m e (head_of (get_or ws at 0)) ≡ Some v) (l : 1 ≤ levels) (w : at < length ws) (done : List ℕ) where
       -- a head that stands there is the one with the image
       same_head : (f : Row) (after : List ℕ) (g : First levels count ws at f after) (i : Imaged m e (get_or ws at 0) v) → g.head ≡ i.head
       same_head f after g i =
           let a : some g.head ≡ some i.head = sym (head_word_lem g.head g.table) ∙ ap head_of g.word_is ∙ i.is in cc
 
       -- its children have none
-      pub row_stuck : RowTold m (inside_word (get_or ws at 0) e) (levels - 1) (count_of (get_or ws at 0)) ws (at + 1) (set out at v) done Stuck
-          → RowTold m e levels count ws at out done Stuck
+      pub row_stuck : RowTold m (inside_word (get_or ws at 0) e) (levels - 1) (count_of (get_or ws at 0)) ws (at + 1) (set out at v) done None
+          → RowTold m e levels count ws at out done None
       unfolding RowTold named
       row_stuck told f after s = shown (first levels count ws at z f after s)
         where
@@ -159,23 +157,23 @@ module _ (m : ℕ → ℕ → ℕ) (e levels count : ℕ) (ws : List ℕ) (at : 
               rw g.is (and_false_right (named_head m e g.head) _ (and_false_left (named m (inside g.head e) g.children) _ n2))
 
       -- its children have images, and so the answer is that of the trees to its right
-      pub row_more : (a : ℕ) → RowTold m (inside_word (get_or ws at 0) e) (levels - 1) (count_of (get_or ws at 0)) ws (at + 1) (set out at v) done (Done a)
-          → (last : List ℕ) (r : Passed) → RowTold m e levels (count - 1) ws a done last r → RowTold m e levels count ws at out last r
+      pub row_more : (a : ℕ) → RowTold m (inside_word (get_or ws at 0) e) (levels - 1) (count_of (get_or ws at 0)) ws (at + 1) (set out at v) done (Some a)
+          → (last : List ℕ) (r : Option ℕ) → RowTold m e levels (count - 1) ws a done last r → RowTold m e levels count ws at out last r
       unfolding RowTold named renumber words
       row_more a told last r rest = shown (imaged m e (get_or ws at 0) v q) r rest
         where
           inner : (i : Imaged m e (get_or ws at 0) v) → inside_word (get_or ws at 0) e ≡ inside i.head e
           inner = inside_imaged m e (get_or ws at 0) v
 
-          right_stuck : RowTold m e levels (count - 1) ws a done last Stuck → (f : Row) (after : List ℕ) → First levels count ws at f after → named m e f ≡ false
+          right_stuck : RowTold m e levels (count - 1) ws a done last None → (f : Row) (after : List ℕ) → First levels count ws at f after → named m e f ≡ false
           right_stuck rest f after g =
               let k : g.children ≡ told.0 = same_row (levels - 1) (levels - 1) (count_of (get_or ws at 0)) ws (at + 1) g.children told.0 _ told.1 g.below told.2 in
               let b : Stands levels (count - 1) ws a g.right after = rw (told.4, ← k) g.beside in
               rw g.is
               (and_false_right (named_head m e g.head) _ (and_false_right (named m (inside g.head e) g.children) _ (rest g.right after b)))
 
-          shown : Imaged m e (get_or ws at 0) v → (r : Passed) → RowTold m e levels (count - 1) ws a done last r → RowTold m e levels count ws at out last r
-          shown i (Done b) rest =
+          shown : Imaged m e (get_or ws at 0) v → (r : Option ℕ) → RowTold m e levels (count - 1) ws a done last r → RowTold m e levels count ws at out last r
+          shown i (Some b) rest =
               let n : named m (inside i.head e) told.0 ≡ true = rw (inner i) at told.3 in
               let k = renumber m (inside i.head e) told.0 in
               let beside : Stands levels (count - 1) ws (at + 1 + length (words told.0)) rest.0 rest.1 = rw told.4 at rest.2 in (
@@ -188,4 +186,4 @@ module _ (m : ℕ → ℕ → ℕ) (e levels count : ℕ) (ws : List ℕ) (at : 
                     (written_more out at v a (words k) (words (renumber m e rest.0)) done last (rw (inner i) at told.5)
                     (told.4 ∙ rw (length_renumber m (inside i.head e) told.0)) rest.5),
               )
-          shown i Stuck rest = λ f after s. right_stuck rest f after (first levels count ws at z f after s)
+          shown i None rest = λ f after s. right_stuck rest f after (first levels count ws at z f after s)

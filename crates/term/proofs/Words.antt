@@ -1,11 +1,14 @@
 -- Heads and their words: a head in the table is read back from its word, and a word that is read gives itself back.
-use mathlib.Core.Path.{◌≡◌, refl}
+use mathlib.Core.Path.{◌≡◌, refl, sym, ◌∙◌}
 use mathlib.Core.Bool.{Bool, true, false, ◌&&◌}
+use mathlib.Core.List.{List}
 use mathlib.Core.Option.{Option, none, some}
-use Prim.Native.Nat.{ℕ}
+use Prim.Native.Nat.{ℕ, ◌≤◌, ◌<◌}
 use native.Mathlib.Omega.{arith}
-use lib.Dec.{leb, eqb}
-use borrow.Author.Tests.{eqb-true, leb-true, le-leb}
+use lib.Dec.{leb, ltb, eqb}
+use lib.ListN.{length, get_or}
+use borrow.Author.Tests.{eqb-true, leb-true, le-leb, ltb-true, ltb-false}
+use Rattle.std.proofs.lemmas.List.{get_or_default}
 use Rattle.term.specs.Check.{rank_or}
 use Rattle.term.specs.Word.{Head, symbol, abstraction, variable, pattern, pick, kind, count, ident, word, InTable, kind_of, count_of, ident_of, head_with, head_of}
 
@@ -99,3 +102,11 @@ head_is_lem w h e = rw e at (word_head w)
 pub table_is : (w k c i r : ℕ) → k ≡ kind_of w → c ≡ count_of w → i ≡ ident_of w → r ≡ rank_or 4 (head_with k c i) → r ≡ rank_or 4 (head_of w)
 unfolding head_of
 table_is w k c i r a b d e = rw (a, b, d) at e
+
+-- ---- what `get` tells of an offset: the word that stands there, or that the words end before
+module _ (ws : List ℕ) (i : ℕ) where
+  pub word_there : (w : ℕ) → true ≡ ltb i (length ws) → w ≡ get_or ws i w → (i < length ws) × (w ≡ get_or ws i 0)
+  word_there w t e = let h = ltb-true i (length ws) (sym t) in (h, e ∙ sym (get_or_default ws i 0 w h))
+
+  pub words_past : false ≡ ltb i (length ws) → length ws ≤ i
+  words_past t = ltb-false i (length ws) (sym t)

@@ -1,8 +1,6 @@
 -- Document 01, "Words": when a list of words is one term, and the first bad place.
-use Rattle.std.specs.Prelude.{ℕ, zero, suc, ◌+◌, ◌-◌, ◌≤◌, ◌≡◌, Bool, ◌&&◌, List, [], ◌∷◌, length, leb, ltb}
+use Rattle.std.specs.Prelude.{ℕ, zero, suc, ◌+◌, ◌-◌, ◌≤◌, ◌≡◌, Bool, ◌&&◌, List, [], ◌∷◌, length, leb, ltb, Result, Ok, Err}
 use Rattle.std.proofs.Math.Option.{Option, none, some}
-use Rattle.term.specs.declared.check.Checked.{Checked}
-use Rattle.term.specs.declared.check.Checked.TheVariants.{Good, Bad}
 use Rattle.term.specs.Word.{Head, pick, rank, term_rank, count_of, head_of}
 use Rattle.term.specs.Row.{Row, width, words, nesting, ranks, Formed}
 
@@ -46,15 +44,15 @@ settle (zero ∷ levels) = settle levels
 settle (suc k ∷ levels) = suc k ∷ levels
 
 -- the words from offset `at` on, where these levels are open
-unfoldable pub scan : Limits → ℕ → List ℕ → List ℕ → Checked
-scan limits at [] [] = Good
-scan limits at [] (w ∷ ws) = Bad at
-scan limits at (k ∷ levels) [] = Bad at
+unfoldable pub scan : Limits → ℕ → List ℕ → List ℕ → Result (Unit {0}) ℕ
+scan limits at [] [] = Ok tt
+scan limits at [] (w ∷ ws) = Err at
+scan limits at (k ∷ levels) [] = Err at
 scan limits at (k ∷ levels) (w ∷ ws) =
     pick (may_stand limits at (length (k ∷ levels)) w)
     (scan limits (at + 1) (settle (count_of w ∷ (k - 1) ∷ levels)) ws)
-    (Bad at)
+    (Err at)
 
 -- one tree is one to begin at the outermost level
-unfoldable pub check : Limits → List ℕ → Checked
+unfoldable pub check : Limits → List ℕ → Result (Unit {0}) ℕ
 check limits ws = scan limits 0 (1 ∷ []) ws

@@ -1,8 +1,6 @@
 -- Document 02, E3: "a table with the length of the subterm at every offset, no more".
-use Rattle.std.specs.Prelude.{ℕ, suc, List, [], ◌∷◌, ◌++◌, leb, eqb, length, replicate}
+use Rattle.std.specs.Prelude.{ℕ, suc, List, [], ◌∷◌, ◌++◌, leb, eqb, length, replicate, Result, Ok, Err}
 use Rattle.std.proofs.Math.Option.{Option, none, some}
-use Rattle.term.specs.declared.check.Checked.{Checked}
-use Rattle.term.specs.declared.check.Checked.TheVariants.{Good, Bad}
 use Rattle.term.specs.declared.answer.Answer.{Answer}
 use Rattle.term.specs.declared.answer.Answer.TheVariants.{Done, BadTerm, Short, Disagree}
 use Rattle.term.specs.Answer.{Answered, answered}
@@ -37,9 +35,9 @@ pub record LengthsOutcome : Type 0 where
 abbrev pub lengths_came : Answered → List ℕ → LengthsOutcome
 lengths_came said out = record { said = said; out = out }
 
-abbrev pub table_made : List ℕ → ℕ → Checked → LengthsOutcome
-table_made term room Good = lengths_came (answered (pick (leb (length (table_of term)) room) Done Short)) (padded room (table_of term))
-table_made term room (Bad at) = lengths_came (answered (BadTerm at)) (replicate room 0)
+abbrev pub table_made : List ℕ → ℕ → Result (Unit {0}) ℕ → LengthsOutcome
+table_made term room (Ok _) = lengths_came (answered (pick (leb (length (table_of term)) room) Done Short)) (padded room (table_of term))
+table_made term room (Err at) = lengths_came (answered (BadTerm at)) (replicate room 0)
 
 unfoldable pub lengths_gives : (term : List ℕ) (room : ℕ) → LengthsOutcome
 lengths_gives term room = table_made term room (check term_limits term)
@@ -51,9 +49,9 @@ agreed at [] (m ∷ ms) = Disagree at
 agreed at (n ∷ ns) [] = Disagree at
 agreed at (n ∷ ns) (m ∷ ms) = pick (eqb n m) (agreed (suc at) ns ms) (Disagree at)
 
-abbrev pub table_checked : List ℕ → List ℕ → Checked → Answer
-table_checked term table Good = agreed 0 (table_of term) table
-table_checked term table (Bad at) = BadTerm at
+abbrev pub table_checked : List ℕ → List ℕ → Result (Unit {0}) ℕ → Answer
+table_checked term table (Ok _) = agreed 0 (table_of term) table
+table_checked term table (Err at) = BadTerm at
 
 unfoldable pub check_lengths_gives : (term table : List ℕ) → Answered
 check_lengths_gives term table = answered (table_checked term table (check term_limits term))

@@ -1,11 +1,9 @@
 -- Parts of terms and their bodies, as the operations see them: in words.
-use Rattle.std.specs.Prelude.{ℕ, zero, suc, ◌+◌, ◌-◌, Bool, true, false, ◌&&◌, List, [], ◌∷◌, ◌++◌, length, replicate, leb, eqb}
+use Rattle.std.specs.Prelude.{ℕ, zero, suc, ◌+◌, ◌-◌, Bool, true, false, ◌&&◌, List, [], ◌∷◌, ◌++◌, length, replicate, leb, eqb, Result, Ok, Err, Option as StdOption, Some, None}
 use Rattle.std.proofs.Math.Option.{Option, none, some}
 use Rattle.std.proofs.lemmas.List.Edits.{sets}
-use Rattle.term.specs.declared.part.Written.{Written}
-use Rattle.term.specs.declared.part.Written.TheVariants.{Words, NoBody, Short}
-use Rattle.term.specs.declared.renumber.Passed.{Passed}
-use Rattle.term.specs.declared.renumber.Passed.TheVariants.{Done, Stuck}
+use Rattle.term.specs.declared.part.Unwritten.{Unwritten}
+use Rattle.term.specs.declared.part.Unwritten.TheVariants.{NoBody, Short}
 use Rattle.term.specs.Word.{pick, term_rank, count_of}
 use Rattle.term.specs.Row.{Row, words, ranks, nesting, Got, read}
 use Rattle.term.specs.Renumber.{good_list, to_term, to_body, ids_within}
@@ -60,15 +58,15 @@ unfoldable pub same_body : ℕ → List ℕ → List ℕ → ℕ → List ℕ �
 same_body d ys ws c zs vs = same_o (body_of d ys ws) (body_of c zs vs)
 
 -- ---- writing into a lent slice of `room` words
-unfoldable pub written : ℕ → List ℕ → Written
-written room ws = pick (leb (length ws) room) (Words (length ws)) Short
+unfoldable pub written : ℕ → List ℕ → Result ℕ Unwritten
+written room ws = pick (leb (length ws) room) (Ok (length ws)) (Err Short)
 
 -- the words and then zeros, or zeros alone where they do not fit
 unfoldable pub padded : ℕ → List ℕ → List ℕ
 padded room ws = pick (leb (length ws) room) (ws ++ replicate (room - length ws) 0) (replicate room 0)
 
-unfoldable pub body_answer : ℕ → Option Row → Written
-body_answer room none = NoBody
+unfoldable pub body_answer : ℕ → Option Row → Result ℕ Unwritten
+body_answer room none = Err NoBody
 body_answer room (some b) = written room (words b)
 
 unfoldable pub body_words : ℕ → Option Row → List ℕ
@@ -86,15 +84,15 @@ term_below levels d ys ws = below_o levels d ys (read 1 ws)
 
 -- all that comes back
 pub record BelowOutcome : Type 0 where
-  pub said : Passed
+  pub said : StdOption ℕ
   pub out : List ℕ
 
-abbrev pub below_came : Passed → List ℕ → BelowOutcome
+abbrev pub below_came : StdOption ℕ → List ℕ → BelowOutcome
 below_came said out = record { said = said; out = out }
 
 abbrev pub wrote_below : List ℕ → Option Row → BelowOutcome
-wrote_below out none = below_came Stuck (replicate (length out) 0)
-wrote_below out (some t) = below_came (Done (length (words t))) (sets out 0 (words t))
+wrote_below out none = below_came None (replicate (length out) 0)
+wrote_below out (some t) = below_came (Some (length (words t))) (sets out 0 (words t))
 
 unfoldable pub write_below_gives : (levels d : ℕ) (list body out : List ℕ) → BelowOutcome
 write_below_gives levels d list body out = wrote_below out (term_below levels d list body)

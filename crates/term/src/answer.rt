@@ -20,6 +20,7 @@ pub enum Answer {
 }
 
 // The number of the table.
+// By hand: variants that hold a place have no number by as, and the table's numbers leave gaps.
 pub fn number(answer: Answer) -> u32
     ensures { result ≡ number_of answer }
 {
@@ -44,17 +45,12 @@ pub fn place(answer: Answer) -> usize
     ensures { result ≡ place_of answer }
 {
     match answer {
-        Answer::BadText(at) => at,
-        Answer::BadTerm(at) => at,
-        Answer::BadBook(at) => at,
-        Answer::Damaged(at) => at,
-        Answer::NoRule(at) => at as usize,
-        Answer::CannotTake(at) => at as usize,
-        Answer::Disagree(at) => at,
-        Answer::Done => 0,
-        Answer::NoFit => 0,
-        Answer::BudgetUsed => 0,
-        Answer::Short => 0,
-        Answer::Over => 0,
+        Answer::BadText(at)
+        | Answer::BadTerm(at)
+        | Answer::BadBook(at)
+        | Answer::Damaged(at)
+        | Answer::Disagree(at) => at,
+        Answer::NoRule(at) | Answer::CannotTake(at) => at as usize,
+        Answer::Done | Answer::NoFit | Answer::BudgetUsed | Answer::Short | Answer::Over => 0,
     }
 }

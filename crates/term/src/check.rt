@@ -10,32 +10,22 @@ pub const MOST_WORDS: usize = 4096;
 pub const MOST_NESTING: usize = 64;
 
 // The same as a number of levels.
-pub const MOST_LEVELS: u32 = 64;
+pub const MOST_LEVELS: u32 = MOST_NESTING as u32;
 
 // One level more than may be open: the level of a word that nests too deep.
-pub const OPEN_LEVELS: usize = 65;
-
-#[derive(Clone, Copy)]
-pub enum Checked {
-    Good,
-    Bad(usize),
-}
+pub const OPEN_LEVELS: usize = MOST_NESTING + 1;
 
 // Whether a word may stand at an offset where `depth` levels are open.
+#[tactic(auto, unfolding(crate::specs::Check::may_stand))]
 fn may_stand(w: u32, at: usize, depth: usize, ranks: u32, most: usize, nesting: usize) -> bool
     ensures { result ≡ may_stand (record { ranks = ranks; length = most; nesting = nesting }) at depth w }
 {
-    if ranks < table_rank(w) {
-        return false;
-    }
-    if nesting < depth {
-        return false;
-    }
-    at < most
+    table_rank(w) <= ranks && depth <= nesting && at < most
 }
 
-// The open levels lie in `left`, the innermost last, each with the number of its trees that are still to begin.
-pub fn check_tree(words: &[u32], ranks: u32, most: usize, nesting: usize) -> Checked
+// The open levels lie in `left`, the innermost last, each with the number of its trees that are still to begin. An array with its depth
+// beside it, since there is no heap, and so the loop goes until the depth is 0.
+pub fn check_tree(words: &[u32], ranks: u32, most: usize, nesting: usize) -> Result<(), usize>
     requires { (ranks ≤ 3) × (nesting ≤ 64) }
     ensures { result ≡ check (record { ranks = ranks; length = most; nesting = nesting }) words.now }
 {
@@ -43,35 +33,28 @@ pub fn check_tree(words: &[u32], ranks: u32, most: usize, nesting: usize) -> Che
     left[0] = 1;
     let mut depth = 1;
     let mut at = 0;
-    loop {
-        if depth == 0 {
-            if at == words.len() {
-                return Checked::Good;
-            }
-            return Checked::Bad(at);
-        }
+    while depth != 0 {
         let k = left[depth - 1];
         if k == 0 {
-            depth = depth - 1;
-        } else {
-            if at == words.len() {
-                return Checked::Bad(at);
-            }
-            let w = words[at];
-            if !may_stand(w, at, depth, ranks, most, nesting) {
-                return Checked::Bad(at);
-            }
-            let below = count_of(w);
-            left[depth - 1] = k - 1;
-            left[depth] = below;
-            depth = depth + 1;
-            at = at + 1;
+            depth -= 1;
+            continue;
         }
+        if at == words.len() || !may_stand(words[at], at, depth, ranks, most, nesting) {
+            return Err(at);
+        }
+        left[depth - 1] = k - 1;
+        left[depth] = count_of(words[at]);
+        depth += 1;
+        at += 1;
     }
+    if at < words.len() {
+        return Err(at);
+    }
+    Ok(())
 }
 
-// Good where the words are one term, else the first bad place.
-pub fn check_term(words: &[u32]) -> Checked
+// Ok where the words are one term, else the first bad place.
+pub fn check_term(words: &[u32]) -> Result<(), usize>
     ensures { result ≡ check term_limits words.now }
 {
     check_tree(words, TERM_RANK, MOST_WORDS, MOST_NESTING)

@@ -7,7 +7,7 @@ ghost use Rattle.term.specs.Lengths.{part_lengths, lengths_came, lengths_gives, 
 ghost use Rattle.term.specs.Told.Measure.{Measured};
 
 use crate::answer::Answer;
-use crate::check::{Checked, MOST_WORDS, check_term};
+use crate::check::{MOST_WORDS, check_term};
 use crate::lent::clear;
 use crate::word::count_of;
 
@@ -16,16 +16,14 @@ fn length_at(words: &[u32], table: &[u32], at: usize) -> u32
     requires { (at < length words.now) × (length words.now ≤ 4096) × (length words.now ≤ length table.now) × Measured words.now table.now (at + 1) }
     ensures { result ≡ part_end (drop at words.now) }
 {
-    let mut end = at + 1;
-    let mut left = count_of(words[at]);
-    while left != 0 {
-        if words.len() <= end {
-            return (end - at) as u32;
+    let mut next = at + 1;
+    for _ in 0..count_of(words[at]) {
+        if words.len() <= next {
+            break;
         }
-        end = end + table[end] as usize;
-        left = left - 1;
+        next += table[next] as usize;
     }
-    (end - at) as u32
+    (next - at) as u32
 }
 
 // Writes the table of the words, the last entry first: the length of the part at each offset, by the counts alone.
@@ -33,11 +31,8 @@ pub fn measure(words: &[u32], out: &mut [u32])
     requires { (length words.now ≤ 4096) × (length words.now ≤ length out.old) }
     ensures { out.new ≡ sets out.old 0 (part_lengths words.now) }
 {
-    let mut at = words.len();
-    while at != 0 {
-        at = at - 1;
-        let n = length_at(words, out, at);
-        out[at] = n;
+    for at in (0..words.len()).rev() {
+        out[at] = length_at(words, out, at);
     }
 }
 
@@ -46,7 +41,7 @@ pub fn lengths(term: &[u32], out: &mut [u32]) -> Answer
     ensures { lengths_came (answered result) out.new ≡ lengths_gives term.now (length out.old) }
 {
     clear(out);
-    if let Checked::Bad(at) = check_term(term) {
+    if let Err(at) = check_term(term) {
         return Answer::BadTerm(at);
     }
     if out.len() < term.len() {
@@ -60,27 +55,18 @@ pub fn lengths(term: &[u32], out: &mut [u32]) -> Answer
 fn agree(right: &[u32], table: &[u32]) -> Answer
     ensures { result ≡ agreed 0 right.now table.now }
 {
-    let mut at: usize = 0;
-    while at < right.len() {
-        if table.len() <= at {
-            return Answer::Disagree(at);
-        }
-        if right[at] != table[at] {
-            return Answer::Disagree(at);
-        }
-        at += 1;
+    match right.iter().zip(table).position(|(n, m)| n != m) {
+        Some(at) => Answer::Disagree(at),
+        None if right.len() == table.len() => Answer::Done,
+        None => Answer::Disagree(right.len().min(table.len())),
     }
-    if at < table.len() {
-        return Answer::Disagree(at);
-    }
-    Answer::Done
 }
 
 // Checks a table against its term: 11 where that is no term, 19 where they disagree.
 pub fn check_lengths(term: &[u32], table: &[u32]) -> Answer
     ensures { answered result ≡ check_lengths_gives term.now table.now }
 {
-    if let Checked::Bad(at) = check_term(term) {
+    if let Err(at) = check_term(term) {
         return Answer::BadTerm(at);
     }
     let mut right = [0u32; MOST_WORDS];

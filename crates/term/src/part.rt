@@ -6,14 +6,12 @@ use crate::check::{MOST_LEVELS, MOST_WORDS};
 use crate::image::{Way, renumber_row};
 use crate::lent::clear;
 use crate::list::good_list;
-use crate::renumber::Passed;
 use crate::same::left_open;
 use crate::word::count_of;
 
-// How writing ended: so many words were written, or why none were.
+// Why no body was written.
 #[derive(Clone, Copy)]
-pub enum Written {
-    Words(usize),
+pub enum Unwritten {
     NoBody,
     Short,
 }
@@ -22,17 +20,17 @@ pub enum Written {
 pub fn part_end(words: &[u32]) -> usize
     ensures { result ≡ part_end words.now }
 {
-    let mut at = 0;
     let mut left: usize = 1;
-    while left != 0 {
-        if words.len() - at < left {
-            return words.len();
+    for (at, w) in words.iter().enumerate() {
+        if left == 0 {
+            return at;
         }
-        let w = words[at];
-        left = count_of(w) as usize + (left - 1);
-        at = at + 1;
+        if words.len() - at < left {
+            break;
+        }
+        left = count_of(*w) as usize + (left - 1);
     }
-    at
+    words.len()
 }
 
 // Whether the part that the words begin with has a body under d abstractions with this list.
@@ -54,57 +52,52 @@ pub fn is_closed(words: &[u32], d: u32, list: &[u32]) -> bool
         0,
         &mut unused,
     ) {
-        Passed::Done(n) => {
-            if MOST_WORDS < n {
-                return false;
-            }
-            true
-        }
-        Passed::Stuck => false,
+        Some(n) => n <= MOST_WORDS,
+        None => false,
     }
 }
 
-// Writes the body of the part that the words begin with.
-pub fn write_body(words: &[u32], d: u32, list: &[u32], out: &mut [u32]) -> Written
+// Writes the body of the part that the words begin with, and says how many words it has.
+pub fn write_body(words: &[u32], d: u32, list: &[u32], out: &mut [u32]) -> Result<usize, Unwritten>
     ensures { (result ≡ body_answer (length out.old) (body_of d list.now words.now))
         × (out.new ≡ body_words (length out.old) (body_of d list.now words.now)) }
 {
     clear(out);
     if !good_list(d, list) {
-        return Written::NoBody;
+        return Err(Unwritten::NoBody);
     }
-    match renumber_row(Way::ToBody, d, list, 0, MOST_LEVELS, 1, words, 0, out) {
-        Passed::Done(n) => {
-            if MOST_WORDS < n {
-                clear(out);
-                return Written::NoBody;
-            }
-            if n <= out.len() {
-                return Written::Words(n);
-            }
-            clear(out);
-            Written::Short
-        }
-        Passed::Stuck => {
-            clear(out);
-            Written::NoBody
-        }
+    let Some(n) = renumber_row(Way::ToBody, d, list, 0, MOST_LEVELS, 1, words, 0, out) else {
+        clear(out);
+        return Err(Unwritten::NoBody);
+    };
+    if MOST_WORDS < n {
+        clear(out);
+        return Err(Unwritten::NoBody);
     }
+    if out.len() < n {
+        clear(out);
+        return Err(Unwritten::Short);
+    }
+    Ok(n)
 }
 
-// Writes the term that a body stands for in a place with so many levels left, where no id passes 65,535: Done with how many words it
-// has, also where not all have room.
-pub fn write_below(body: &[u32], d: u32, list: &[u32], levels: u32, out: &mut [u32]) -> Passed
+// Writes the term that a body stands for in a place with so many levels left, where no id passes 65,535: how many words it has,
+// also where not all have room.
+pub fn write_below(
+    body: &[u32],
+    d: u32,
+    list: &[u32],
+    levels: u32,
+    out: &mut [u32],
+) -> Option<usize>
     requires { (length list.now ≤ 4) × (levels ≤ 64) }
     ensures { below_came result out.new ≡ write_below_gives levels d list.now body.now out.old }
 {
-    match renumber_row(Way::ToTerm, d, list, 0, levels, 1, body, 0, out) {
-        Passed::Done(n) => Passed::Done(n),
-        Passed::Stuck => {
-            clear(out);
-            Passed::Stuck
-        }
+    let written = renumber_row(Way::ToTerm, d, list, 0, levels, 1, body, 0, out);
+    if written.is_none() {
+        clear(out);
     }
+    written
 }
 
 // Whether two parts have the same body, each under its own abstractions and with its own list.
@@ -118,11 +111,7 @@ pub fn same_body(
 ) -> bool
     ensures { result ≡ same_body d list.now words.now other_d other_list.now other_words.now }
 {
-    if !good_list(d, list) {
-        return false;
-    }
-    if !good_list(other_d, other_list) {
-        return false;
-    }
-    left_open(words, d, list, other_words, other_d, other_list) == 0
+    good_list(d, list)
+        && good_list(other_d, other_list)
+        && left_open(words, d, list, other_words, other_d, other_list)
 }

@@ -1,13 +1,13 @@
 // Whether two parts, each under its own abstractions and with its own list, have the same body. The second part is `others`, under c
 // abstractions, with the list `ids`.
-ghost use Rattle.std.specs.Prelude.{◌≡◌, ◌&&◌, true, ◌≤◌, eqb, leb, ltb, length};
+ghost use Rattle.std.specs.Prelude.{◌≡◌, ◌&&◌, true, ◌≤◌, leb, ltb, length};
 ghost use Rattle.term.specs.Part.{same_body};
 ghost use Rattle.term.specs.Renumber.{good_list, id_body};
 ghost use Rattle.term.specs.Told.Walk.{image_of, same_image, inner_word, meeting};
 ghost use Rattle.term.specs.Word.{head_of};
 
 use crate::check::{MOST_NESTING, MOST_WORDS, OPEN_LEVELS};
-use crate::image::{Image, Way, renumber_word};
+use crate::image::{Way, renumber_word};
 use crate::renumber::inside_word;
 use crate::word::{VARIABLE_RANK, count_of, id_of, table_rank};
 
@@ -23,90 +23,69 @@ pub enum Met {
 fn both_stand(words: &[u32], others: &[u32], at: usize, depth: usize) -> bool
     ensures { result ≡ ltb at (length words.now) && (ltb at (length others.now) && (ltb at 4096 && leb depth 64)) }
 {
-    if words.len() <= at {
-        return false;
-    }
-    if others.len() <= at {
-        return false;
-    }
-    if MOST_WORDS <= at {
-        return false;
-    }
-    depth <= MOST_NESTING
+    at < words.len() && at < others.len() && at < MOST_WORDS && depth <= MOST_NESTING
 }
 
 // Whether a word is a variable i with e < i ≤ e+d.
+#[tactic(auto, unfolding(crate::specs::Told::Walk::inner_word))]
 fn is_inner(d: u32, e: u32, w: u32) -> bool
     ensures { result ≡ inner_word d e w }
 {
-    if table_rank(w) != VARIABLE_RANK {
-        return false;
-    }
     let i = id_of(w);
-    if i <= e {
-        return false;
-    }
-    i - e <= d
+    table_rank(w) == VARIABLE_RANK && e < i && i - e <= d
 }
 
 fn both_inner(d: u32, c: u32, e: u32, w: u32, x: u32) -> bool
     ensures { result ≡ inner_word d e w && inner_word c e x }
 {
-    if is_inner(d, e, w) {
-        return is_inner(c, e, x);
-    }
-    false
+    is_inner(d, e, w) && is_inner(c, e, x)
 }
 
 // What the lists, in which y and z are sought, have at j.
+#[tactic(auto, unfolding(crate::specs::Told::Walk::meeting, crate::specs::Told::Walk::meets))]
 fn met_at(list: &[u32], y: u32, ids: &[u32], z: u32, j: usize) -> Met
     ensures { result ≡ meeting list.now y ids.now z j }
 {
-    if list.len() <= j {
+    if list.len() <= j || ids.len() <= j {
         return Met::Apart;
     }
-    if ids.len() <= j {
-        return Met::Apart;
+    match (y == list[j], z == ids[j]) {
+        (true, true) => Met::Both,
+        (false, false) => Met::Neither,
+        _ => Met::Apart,
     }
-    if y == list[j] {
-        if z == ids[j] {
-            return Met::Both;
-        }
-        return Met::Apart;
-    }
-    if z == ids[j] {
-        return Met::Apart;
-    }
-    Met::Neither
 }
 
 // Whether two words have the same image.
+#[tactic(auto, unfolding(crate::specs::Told::Walk::image, crate::specs::Told::Walk::same_image))]
 fn same_word(d: u32, list: &[u32], c: u32, ids: &[u32], e: u32, w: u32, x: u32) -> bool
     requires { (length list.now ≤ 4) × (length ids.now ≤ 4) × (e ≤ 64) }
     ensures { result ≡ same_image (image_of (id_body d list.now) e (head_of w)) (image_of (id_body c ids.now) e (head_of x)) }
 {
-    let Image::Word(v) = renumber_word(Way::ToBody, d, list, e, w) else {
+    let Some(v) = renumber_word(Way::ToBody, d, list, e, w) else {
         return false;
     };
-    let Image::Word(u) = renumber_word(Way::ToBody, c, ids, e, x) else {
+    let Some(u) = renumber_word(Way::ToBody, c, ids, e, x) else {
         return false;
     };
     v == u
 }
 
-// How many levels are still open where one pass over both parts ends: none just where they have the same body. The open levels lie in `left`,
-// the innermost last, each with the number of its trees that are still to begin, and in `under` with the abstractions around them.
-pub fn left_open(words: &[u32], d: u32, list: &[u32], others: &[u32], c: u32, ids: &[u32]) -> usize
+// Whether both parts have the same body: no level is left open where one pass over both ends. The open levels lie in `left`, the innermost
+// last, each with the number of its trees that are still to begin, and in `under` with the abstractions around them. The loops count by hand:
+// document 01 asks for nested loops with a label here.
+pub fn left_open(words: &[u32], d: u32, list: &[u32], others: &[u32], c: u32, ids: &[u32]) -> bool
     requires { (good_list d list.now ≡ true) × (good_list c ids.now ≡ true) }
-    ensures { eqb result 0 ≡ same_body d list.now words.now c ids.now others.now }
+    ensures { result ≡ same_body d list.now words.now c ids.now others.now }
 {
+    // Arrays with their depth beside them, since there is no heap.
     let mut left = [1u32; OPEN_LEVELS];
     let mut under = [0u32; OPEN_LEVELS];
     let mut depth = 1;
     let mut at = 0;
     'pass: while depth != 0 {
         if left[depth - 1] == 0 {
-            depth = depth - 1;
+            depth -= 1;
             continue 'pass;
         }
         if !both_stand(words, others, at, depth) {
@@ -115,16 +94,16 @@ pub fn left_open(words: &[u32], d: u32, list: &[u32], others: &[u32], c: u32, id
         let w = words[at];
         let x = others[at];
         let e = under[depth - 1];
-        left[depth - 1] = left[depth - 1] - 1;
+        left[depth - 1] -= 1;
         left[depth] = count_of(w);
         under[depth] = inside_word(w, e);
-        depth = depth + 1;
-        at = at + 1;
+        depth += 1;
+        at += 1;
         if both_inner(d, c, e, w, x) {
             let mut j = 0;
             loop {
                 match met_at(list, id_of(w) - e, ids, id_of(x) - e, j) {
-                    Met::Neither => j = j + 1,
+                    Met::Neither => j += 1,
                     Met::Both => break,
                     Met::Apart => break 'pass,
                 }
@@ -133,5 +112,5 @@ pub fn left_open(words: &[u32], d: u32, list: &[u32], others: &[u32], c: u32, id
             break 'pass;
         }
     }
-    depth
+    depth == 0
 }

@@ -9,6 +9,7 @@ pub const COUNT: u32 = 65536;
 
 pub const COUNTS: u32 = 256;
 
+// The kinds. Numbers: the words lie as C lends them.
 pub const SYMBOL: u32 = 0;
 
 pub const ABSTRACTION: u32 = 1;
@@ -28,7 +29,7 @@ pub const PATTERN_ID: u32 = 15;
 
 pub const PATTERN_COUNT: u32 = 4;
 
-// Where a word of the table may stand, in order.
+// Where a word of the table may stand, in order. Numbers: `rank_or` of specs/Check.antt and the ranks of its `Limits` say them, and `check_tree` compares them.
 pub const SYMBOL_RANK: u32 = 0;
 
 pub const ABSTRACTION_RANK: u32 = 1;
@@ -64,45 +65,21 @@ pub fn id_of(w: u32) -> u32
 }
 
 // The rank of the word with these parts, where the table has it, or NO_RANK.
+#[tactic(auto, unfolding(crate::specs::Word::head_with, crate::specs::Word::rank))]
 fn rank_with(k: u32, c: u32, i: u32) -> u32
     ensures { result ≡ rank_or 4 (head_with k c i) }
 {
-    if k == SYMBOL {
-        if c <= SYMBOL_COUNT {
-            if i <= SYMBOL_ID {
-                return SYMBOL_RANK;
-            }
-        }
-        return NO_RANK;
+    match k {
+        SYMBOL if c <= SYMBOL_COUNT && i <= SYMBOL_ID => SYMBOL_RANK,
+        ABSTRACTION if c == 1 && i == 0 => ABSTRACTION_RANK,
+        VARIABLE if c == 0 && 1 <= i => VARIABLE_RANK,
+        PATTERN if c <= PATTERN_COUNT && i <= PATTERN_ID => PATTERN_RANK,
+        _ => NO_RANK,
     }
-    if k == ABSTRACTION {
-        if c == 1 {
-            if i == 0 {
-                return ABSTRACTION_RANK;
-            }
-        }
-        return NO_RANK;
-    }
-    if k == VARIABLE {
-        if c == 0 {
-            if 1 <= i {
-                return VARIABLE_RANK;
-            }
-        }
-        return NO_RANK;
-    }
-    if k == PATTERN {
-        if c <= PATTERN_COUNT {
-            if i <= PATTERN_ID {
-                return PATTERN_RANK;
-            }
-        }
-        return NO_RANK;
-    }
-    NO_RANK
 }
 
 // The rank of a word that the table has, or NO_RANK.
+#[tactic(auto, unfolding(crate::specs::Word::head_of))]
 pub fn table_rank(w: u32) -> u32
     ensures { result ≡ rank_or 4 (head_of w) }
 {

@@ -8,15 +8,12 @@ use lib.ListN.{length, replicate}
 use borrow.Author.Tests.{leb-true, leb-false, le-leb, lt-leb}
 use Rattle.term.specs.declared.answer.Answer.{Answer}
 use Rattle.term.specs.declared.answer.Answer.TheVariants.{Done, BadText, BadTerm, BadBook, Short}
-use Rattle.term.specs.declared.check.Checked.{Checked}
-use Rattle.term.specs.declared.check.Checked.TheVariants.{Good, Bad}
+use Rattle.std.specs.Prelude.{Result, Ok, Err}
 use Rattle.term.specs.Word.{pick}
 use Rattle.term.specs.Check.{check, term_limits}
 use Rattle.term.specs.Part.{padded}
 use Rattle.term.proofs.Laws.{never, padded_fits, padded_short}
 use Rattle.book.specs.Book.{check_book}
-use Rattle.book.specs.declared.accept.Accepted.{Accepted}
-use Rattle.book.specs.declared.accept.Accepted.TheVariants.{Sound, Refused}
 use Rattle.book.specs.Accept.{accept}
 use Rattle.book.proofs.Laws.{good_accepted, bad_refused, accepted_good}
 use Rattle.text.specs.Given.{given_answer, given_left}
@@ -34,20 +31,20 @@ abbrev pub filled : ℕ → List ℕ → List ℕ
 filled room bs = bs ++ replicate (room - length bs) 0
 
 -- a book that is refused is not answered with 0
-refused_undone : (ws : List ℕ) → accept ws ≡ Refused Done → ⊥
+refused_undone : (ws : List ℕ) → accept ws ≡ Err Done → ⊥
 refused_undone ws e = go (check_book ws) refl
   where
-    go : (c : Checked) → check_book ws ≡ c → ⊥
-    go Good g = never (let z = good_accepted ws g in cc)
-    go (Bad at) g = never (let z = bad_refused ws at g in cc)
+    go : (c : Result (Unit {0}) ℕ) → check_book ws ≡ c → ⊥
+    go (Ok _) g = never (let z = good_accepted ws g in cc)
+    go (Err at) g = never (let z = bad_refused ws at g in cc)
 
 -- nor is such a term
-unsound_undone : (ws : List ℕ) → accept_term ws ≡ Refused Done → ⊥
+unsound_undone : (ws : List ℕ) → accept_term ws ≡ Err Done → ⊥
 unsound_undone ws e = go (check term_limits ws) refl
   where
-    go : (c : Checked) → check term_limits ws ≡ c → ⊥
-    go Good g = never (let z = good_term ws g in cc)
-    go (Bad at) g = never (let z = bad_term_lem ws at g in cc)
+    go : (c : Result (Unit {0}) ℕ) → check term_limits ws ≡ c → ⊥
+    go (Ok _) g = never (let z = good_term ws g in cc)
+    go (Err at) g = never (let z = bad_term_lem ws at g in cc)
 
 -- ---- room is asked for last
 module _ (room : ℕ) (bs : List ℕ) where
@@ -72,29 +69,29 @@ module _ (room : ℕ) (bs : List ℕ) where
       go false q z = padded_short room bs (leb-false (length bs) room q)
 
   -- ---- what was accepted or refused
-  given_done : (k : Accepted) → (k ≡ Refused Done → ⊥) → given_answer room bs k ≡ Done → (k ≡ Sound) × (length bs ≤ room)
-  given_done Sound n e = (refl, done_fits e)
-  given_done (Refused a) n e = absurd (n (ap Refused e))
+  given_done : (k : Result (Unit {0}) Answer) → (k ≡ Err Done → ⊥) → given_answer room bs k ≡ Done → (k ≡ Ok tt) × (length bs ≤ room)
+  given_done (Ok _) n e = (refl, done_fits e)
+  given_done (Err a) n e = absurd (n (ap Err e))
 
-  given_zeros : (k : Accepted) → (given_answer room bs k ≡ Done → ⊥) → given_left room bs k ≡ replicate room 0
-  given_zeros Sound n = undone_zeros n
-  given_zeros (Refused a) n = refl
+  given_zeros : (k : Result (Unit {0}) Answer) → (given_answer room bs k ≡ Done → ⊥) → given_left room bs k ≡ replicate room 0
+  given_zeros (Ok _) n = undone_zeros n
+  given_zeros (Err a) n = refl
 
-  text_done : (k : Accepted) → (k ≡ Refused Done → ⊥) → text_gives room bs k ≡ Done → (k ≡ Sound) × (length bs ≤ 65536) × (length bs ≤ room)
-  text_done Sound n e = go (leb (length bs) 65536) refl e
+  text_done : (k : Result (Unit {0}) Answer) → (k ≡ Err Done → ⊥) → text_gives room bs k ≡ Done → (k ≡ Ok tt) × (length bs ≤ 65536) × (length bs ≤ room)
+  text_done (Ok _) n e = go (leb (length bs) 65536) refl e
     where
-      go : (b : Bool) → leb (length bs) 65536 ≡ b → pick b (pick (leb (length bs) room) Done Short) Short ≡ Done → (Sound ≡ Sound) × (length bs ≤ 65536) × (length bs ≤ room)
+      go : (b : Bool) → leb (length bs) 65536 ≡ b → pick b (pick (leb (length bs) room) Done Short) Short ≡ Done → (◌≡◌ {A = Result (Unit {0}) Answer} (Ok tt) (Ok tt)) × (length bs ≤ 65536) × (length bs ≤ room)
       go true q z = (refl, leb-true (length bs) 65536 q, done_fits z)
       go false q z = never (cc)
-  text_done (Refused a) n e = absurd (n (ap Refused e))
+  text_done (Err a) n e = absurd (n (ap Err e))
 
-  text_zeros : (k : Accepted) → (text_gives room bs k ≡ Done → ⊥) → text_leaves room bs k ≡ replicate room 0
-  text_zeros Sound n = go (leb (length bs) 65536) n
+  text_zeros : (k : Result (Unit {0}) Answer) → (text_gives room bs k ≡ Done → ⊥) → text_leaves room bs k ≡ replicate room 0
+  text_zeros (Ok _) n = go (leb (length bs) 65536) n
     where
       go : (b : Bool) → (pick b (pick (leb (length bs) room) Done Short) Short ≡ Done → ⊥) → pick b (padded room bs) (replicate room 0) ≡ replicate room 0
       go true z = undone_zeros z
       go false z = refl
-  text_zeros (Refused a) n = refl
+  text_zeros (Err a) n = refl
 
 -- ---- reading a term
 module _ (room : ℕ) where
@@ -103,11 +100,11 @@ module _ (room : ℕ) where
   read_bad_line at = (refl, refl)
 
   module _ (ws : List ℕ) where
-    pub read_bad_term : (at : ℕ) → check term_limits ws ≡ Bad at → Are (read_answer room (says ws)) (read_words room (says ws)) (BadTerm at) (replicate room 0)
+    pub read_bad_term : (at : ℕ) → check term_limits ws ≡ Err at → Are (read_answer room (says ws)) (read_words room (says ws)) (BadTerm at) (replicate room 0)
     unfolding read_answer read_words
     read_bad_term at k = rw (bad_term_lem ws at k) (refl, refl)
 
-    module _ (k : check term_limits ws ≡ Good) where
+    module _ (k : check term_limits ws ≡ Ok tt) where
       pub read_good_term : length ws ≤ room → Are (read_answer room (says ws)) (read_words room (says ws)) Done (filled room ws)
       unfolding read_answer read_words
       read_good_term h = rw (good_term ws k) (fits room ws h)
@@ -116,7 +113,7 @@ module _ (room : ℕ) where
       unfolding read_answer read_words
       read_short_term h = rw (good_term ws k) (short room ws h)
 
-  pub read_term_done : (said : Said) → read_answer room said ≡ Done → (ws : List ℕ) × (said ≡ says ws) × (check term_limits ws ≡ Good) × (length ws ≤ room)
+  pub read_term_done : (said : Said) → read_answer room said ≡ Done → (ws : List ℕ) × (said ≡ says ws) × (check term_limits ws ≡ Ok tt) × (length ws ≤ room)
   unfolding read_answer
   read_term_done (says ws) e = let d = given_done room ws (accept_term ws) (unsound_undone ws) e in (ws, refl, sound_term ws d.0, d.1)
   read_term_done (bad_line at) e = never (cc)
@@ -128,11 +125,11 @@ module _ (room : ℕ) where
 
 -- ---- writing a term
 module _ (room : ℕ) (ws : List ℕ) where
-  pub write_bad_term : (at : ℕ) → check term_limits ws ≡ Bad at → Are (write_answer room ws) (write_bytes room ws) (BadTerm at) (replicate room 0)
+  pub write_bad_term : (at : ℕ) → check term_limits ws ≡ Err at → Are (write_answer room ws) (write_bytes room ws) (BadTerm at) (replicate room 0)
   unfolding write_answer write_bytes
   write_bad_term at k = rw (bad_term_lem ws at k) (refl, refl)
 
-  module _ (k : check term_limits ws ≡ Good) where
+  module _ (k : check term_limits ws ≡ Ok tt) where
     pub write_good_term : length (line_text ws) ≤ room → Are (write_answer room ws) (write_bytes room ws) Done (filled room (line_text ws))
     unfolding write_answer write_bytes
     write_good_term h = rw (good_term ws k) (fits room (line_text ws) h)
@@ -141,7 +138,7 @@ module _ (room : ℕ) (ws : List ℕ) where
     unfolding write_answer write_bytes
     write_short_term h = rw (good_term ws k) (short room (line_text ws) h)
 
-  pub write_term_done : write_answer room ws ≡ Done → (check term_limits ws ≡ Good) × (length (line_text ws) ≤ room)
+  pub write_term_done : write_answer room ws ≡ Done → (check term_limits ws ≡ Ok tt) × (length (line_text ws) ≤ room)
   unfolding write_answer
   write_term_done e = let d = given_done room (line_text ws) (accept_term ws) (unsound_undone ws) e in (sound_term ws d.0, d.1)
 
@@ -156,11 +153,11 @@ module _ (room : ℕ) where
   read_bad_book_line at = (refl, refl)
 
   module _ (ws : List ℕ) where
-    pub read_bad_book : (at : ℕ) → check_book ws ≡ Bad at → Are (read_book_answer room (says ws)) (read_book_words room (says ws)) (BadBook at) (replicate room 0)
+    pub read_bad_book : (at : ℕ) → check_book ws ≡ Err at → Are (read_book_answer room (says ws)) (read_book_words room (says ws)) (BadBook at) (replicate room 0)
     unfolding read_book_answer read_book_words
     read_bad_book at k = rw (bad_refused ws at k) (refl, refl)
 
-    module _ (k : check_book ws ≡ Good) where
+    module _ (k : check_book ws ≡ Ok tt) where
       pub read_good_book : length ws ≤ room → Are (read_book_answer room (says ws)) (read_book_words room (says ws)) Done (filled room ws)
       unfolding read_book_answer read_book_words
       read_good_book h = rw (good_accepted ws k) (fits room ws h)
@@ -169,7 +166,7 @@ module _ (room : ℕ) where
       unfolding read_book_answer read_book_words
       read_short_book h = rw (good_accepted ws k) (short room ws h)
 
-  pub read_book_done : (said : Said) → read_book_answer room said ≡ Done → (ws : List ℕ) × (said ≡ says ws) × (check_book ws ≡ Good) × (length ws ≤ room)
+  pub read_book_done : (said : Said) → read_book_answer room said ≡ Done → (ws : List ℕ) × (said ≡ says ws) × (check_book ws ≡ Ok tt) × (length ws ≤ room)
   unfolding read_book_answer
   read_book_done (says ws) e = let d = given_done room ws (accept ws) (refused_undone ws) e in (ws, refl, accepted_good ws d.0, d.1)
   read_book_done (bad_line at) e = never (cc)
@@ -181,11 +178,11 @@ module _ (room : ℕ) where
 
 -- ---- writing a book
 module _ (room : ℕ) (ws : List ℕ) where
-  pub write_bad_book : (at : ℕ) → check_book ws ≡ Bad at → Are (write_book_answer room ws) (write_book_bytes room ws) (BadBook at) (replicate room 0)
+  pub write_bad_book : (at : ℕ) → check_book ws ≡ Err at → Are (write_book_answer room ws) (write_book_bytes room ws) (BadBook at) (replicate room 0)
   unfolding write_book_answer write_book_bytes
   write_bad_book at k = rw (bad_refused ws at k) (refl, refl)
 
-  module _ (k : check_book ws ≡ Good) where
+  module _ (k : check_book ws ≡ Ok tt) where
     pub write_long_book : 65536 < length (book_text ws) → Are (write_book_answer room ws) (write_book_bytes room ws) Short (replicate room 0)
     unfolding write_book_answer write_book_bytes
     write_long_book l = rw (good_accepted ws k, lt-leb (length (book_text ws)) 65536 l) (refl, refl)
@@ -199,7 +196,7 @@ module _ (room : ℕ) (ws : List ℕ) where
       unfolding write_book_answer write_book_bytes
       write_short_book h = rw (good_accepted ws k, le-leb (length (book_text ws)) 65536 l) (short room (book_text ws) h)
 
-  pub write_book_done : write_book_answer room ws ≡ Done → (check_book ws ≡ Good) × (length (book_text ws) ≤ 65536) × (length (book_text ws) ≤ room)
+  pub write_book_done : write_book_answer room ws ≡ Done → (check_book ws ≡ Ok tt) × (length (book_text ws) ≤ 65536) × (length (book_text ws) ≤ room)
   unfolding write_book_answer
   write_book_done e =
       let d = text_done room (book_text ws) (accept ws) (refused_undone ws) e in (accepted_good ws d.0, d.1, d.2)

@@ -7,11 +7,11 @@ use native.Mathlib.Omega.{arith}
 use lib.ListN.{length, replicate, drop, set, drop_of_length-le}
 use lib.Seq.{sets, drop-cons}
 use borrow.Author.Tests.{le-leb, lt-leb}
+use Rattle.std.specs.Prelude.{Ok}
 use Rattle.term.specs.declared.answer.Answer.{Answer}
 use Rattle.term.specs.declared.answer.Answer.TheVariants.{BadText}
 use Rattle.term.specs.Answer.{answered}
 use Rattle.book.specs.Accept.{accept}
-use Rattle.text.specs.declared.rule_text.Rules.TheVariants as rules
 use Rattle.text.specs.Given.{given_answer, given_left}
 use Rattle.text.specs.TermText.{says, bad_line}
 use Rattle.text.specs.BookText.{book_line, rules_key, keyed, number_line, rules_read, rules_are, bad_at, book_read, due_after, book_said, read_book_answer, read_book_words, read_book_came, read_book_gives}
@@ -34,8 +34,8 @@ module _ (bs : List ℕ) (at : ℕ) where
       unfolding book_read
       no_rules line r = rw (e, q, r)
 
-      pub all_rules : (out mid done : List ℕ) (m next : ℕ) → mid ≡ set out 0 n → RulesTold (rules_read 0 n) 8384 bs b 1 mid done (rules.Words m next)
-          → RulesTold book_read 8385 bs at 0 out done (rules.Words (m + 1) next)
+      pub all_rules : (out mid done : List ℕ) (m next : ℕ) → mid ≡ set out 0 n → RulesTold (rules_read 0 n) 8384 bs b 1 mid done (Ok (m, next))
+          → RulesTold book_read 8385 bs at 0 out done (Ok (m + 1, next))
       unfolding book_read
       all_rules out mid done m next s t =
           (n ∷ t.0, rw (e, q, t.1), omega (arith, t.2), t.3 ∙ ap (λ (x : List ℕ). sets x 1 t.0) s, t.4, omega (arith, t.5))

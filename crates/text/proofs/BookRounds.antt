@@ -8,7 +8,7 @@ use native.Mathlib.Omega.{arith}
 use lib.Dec.{leb, ltb, eqb}
 use lib.ListN.{length}
 use borrow.Author.Tests.{eqb-true, eq-eqb, leb-true, le-leb, ltb-false}
-use Rattle.term.specs.declared.check.Checked.TheVariants.{Good, Bad}
+use Rattle.std.specs.Prelude.{Ok, Err}
 use Rattle.term.specs.Word.{pick}
 use Rattle.term.specs.Check.{IsTree}
 use Rattle.term.proofs.Laws.{never}
@@ -44,9 +44,9 @@ rule_back number rule rest h v l r =
       side_line_back right_key rule.right rest r.known r.begun r.few,
     )
 
-module _ (number more : ℕ) (ws : List ℕ) (again : (vs : List ℕ) → judge (suc number) more vs ≡ Good → rules_read (suc number) more (rules_text (suc number) more vs) ≡ rules_are vs []) where
+module _ (number more : ℕ) (ws : List ℕ) (again : (vs : List ℕ) → judge (suc number) more vs ≡ Ok tt → rules_read (suc number) more (rules_text (suc number) more vs) ≡ rules_are vs []) where
   good_back : (rule : Rule) (rest : List ℕ) → number ≤ 63 → rule_of ws ≡ some (rule, rest) → (b : Bool) → good_rule rule.vars rule.left rule.right ≡ b
-      → judged b (judge (suc number) more rest) number ≡ Good
+      → judged b (judge (suc number) more rest) number ≡ Ok tt
       → then_rules (rules_read (suc number) more) (rule_read number (rule_text number rule (rules_text (suc number) more rest))) ≡ rules_are ws []
   good_back rule rest h e true q g =
       let f = good_facts rule q in
@@ -54,23 +54,23 @@ module _ (number more : ℕ) (ws : List ℕ) (again : (vs : List ℕ) → judge 
       (ap (λ (x : List ℕ). rules_are x []) (sym (rule_words_lem ws rule rest e)))
   good_back rule rest h e false q g = never (cc)
 
-  next_back : number ≤ 63 → (o : Option (Rule × List ℕ)) → rule_of ws ≡ o → judged (good_next o) (judge (suc number) more (after_next o)) number ≡ Good
+  next_back : number ≤ 63 → (o : Option (Rule × List ℕ)) → rule_of ws ≡ o → judged (good_next o) (judge (suc number) more (after_next o)) number ≡ Ok tt
       → then_rules (rules_read (suc number) more) (rule_read number (next_text number o (rules_text (suc number) more (after_next o)))) ≡ rules_are ws []
   next_back h none e g = never (cc)
   next_back h (some p) e g = good_back p.0 p.1 h e (good_rule p.0.vars p.0.left p.0.right) refl g
 
-rules_back : (more number : ℕ) (ws : List ℕ) → number + more ≤ 64 → judge number more ws ≡ Good → rules_read number more (rules_text number more ws) ≡ rules_are ws []
+rules_back : (more number : ℕ) (ws : List ℕ) → number + more ≤ 64 → judge number more ws ≡ Ok tt → rules_read number more (rules_text number more ws) ≡ rules_are ws []
 unfolding rules_read rules_text
 rules_back zero number [] h g = refl
 rules_back zero number (w ∷ ws) h g = never (let z = judge_over number w ws in cc)
 rules_back (suc more) number ws h g = next_back number more ws (λ vs k. rules_back more (suc number) vs (omega arith) k) (omega arith) (rule_of ws) refl (sym (judge_next number more ws) ∙ g)
 
-pub book_said_lem : (ws : List ℕ) → check_book ws ≡ Good → length (book_text ws) ≤ 65536 → book_said (book_text ws) ≡ says ws
+pub book_said_lem : (ws : List ℕ) → check_book ws ≡ Ok tt → length (book_text ws) ≤ 65536 → book_said (book_text ws) ≡ says ws
 unfolding book_said book_read book_text
 book_said_lem [] g h = never (let z = check_empty in cc)
 book_said_lem (n ∷ ws) g h = go (ltb 64 n) refl (sym (check_counted n ws) ∙ g)
   where
-    go : (b : Bool) → ltb 64 n ≡ b → pick b (Bad 64) (judge 0 n ws) ≡ Good → book_said (book_line ++ number_text rules_key n (rules_text 0 n ws)) ≡ says (n ∷ ws)
+    go : (b : Bool) → ltb 64 n ≡ b → pick b (Err 64) (judge 0 n ws) ≡ Ok tt → book_said (book_line ++ number_text rules_key n (rules_text 0 n ws)) ≡ says (n ∷ ws)
     go true e k = never (cc)
     go false e k =
         let l = ltb-false 64 n e in

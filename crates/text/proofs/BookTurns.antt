@@ -4,7 +4,7 @@ use mathlib.Core.List.{List, [], ◌++◌}
 use Prim.Native.Nat.{ℕ, suc, ◌+◌, ◌-◌, ◌≤◌, ◌<◌}
 use native.Mathlib.Omega.{arith}
 use lib.ListN.{length, get_or, take, drop}
-use Rattle.term.specs.declared.check.Checked.TheVariants.{Good}
+use Rattle.std.specs.Prelude.{Ok}
 use Rattle.book.specs.Book.{judge}
 use Rattle.text.specs.BookText.{rule_text, rules_text}
 use Rattle.book.proofs.Laws.{rule_words_lem}
@@ -45,12 +45,12 @@ module _ (book : List ℕ) (count number a : ℕ) where
         after = rw (ll, lr) (after_part book a v l r n.rest e);
       }
 
-  pub turn : number < count → judge number (count - number) (drop a book) ≡ Good → Turn book count number a
+  pub turn : number < count → judge number (count - number) (drop a book) ≡ Ok tt → Turn book count number a
   turn h g =
       let z : count - number ≡ suc (count - (number + 1)) = omega arith in turn_at (next_rule number (count - (number + 1)) (drop a book) (rw z at g))
 
   module _ (t : Turn book count number a) where
-    pub turn_judged : judge (number + 1) (count - (number + 1)) (drop (a + 3 + get_or book (a + 1) 0 + get_or book (a + 2) 0) book) ≡ Good
+    pub turn_judged : judge (number + 1) (count - (number + 1)) (drop (a + 3 + get_or book (a + 1) 0 + get_or book (a + 2) 0) book) ≡ Ok tt
     turn_judged = let z : number + 1 ≡ suc number = omega arith in rw t.after (ap (λ (x : ℕ). judge x (count - (number + 1)) t.next.rest) z ∙ t.next.others)
 
     pub turn_text : (bs text : List ℕ) → number < count → text ≡ bs ++ rules_text number (count - number) (drop a book)
@@ -71,7 +71,7 @@ module _ (book : List ℕ) (count number a : ℕ) where
     turn_short h = rule_short number t.next.rule h t.next.few t.next.left_few t.next.right_few
 
 -- before the first rule
-pub begun_judged : (n : ℕ) (ws : List ℕ) → judge 0 n ws ≡ Good → judge 0 (n - 0) ws ≡ Good
+pub begun_judged : (n : ℕ) (ws : List ℕ) → judge 0 n ws ≡ Ok tt → judge 0 (n - 0) ws ≡ Ok tt
 begun_judged n ws g = let z : n - 0 ≡ n = omega arith in rw z g
 
 pub begun_text : (n : ℕ) (ws : List ℕ) → rules_text 0 n ws ≡ [] ++ rules_text 0 (n - 0) ws

@@ -5,21 +5,18 @@ use mathlib.Core.List.{List, [], ◌∷◌, ◌++◌, append_assoc, append-nil}
 use mathlib.Core.Option.{Option, none, some}
 use Prim.Native.Nat.{ℕ, suc, ◌+◌, ◌-◌, ◌≤◌, ◌<◌}
 use native.Mathlib.Omega.{arith}
-use native.Mathlib.Numerals.{add-one}
 use lib.Dec.{ltb}
 use lib.ListN.{length, replicate, get_or, take, drop, set, length-append, length-drop}
-use lib.Seq.{sets, take-suc, length-take-le, drop-drop, get_or-drop, take_at, drop_at}
+use lib.Seq.{sets, drop-drop, get_or-drop, take_at, drop_at}
 use borrow.Author.Tests.{le-leb, lt-leb, ltb-false}
 use Rattle.term.specs.declared.answer.Answer.{Answer}
 use Rattle.term.specs.declared.answer.Answer.TheVariants.{Done, Short}
-use Rattle.term.specs.declared.check.Checked.TheVariants.{Good, Bad}
+use Rattle.std.specs.Prelude.{Ok, Err, Result}
 use Rattle.term.specs.Answer.{answered}
 use Rattle.term.specs.Word.{pick}
 use Rattle.term.proofs.Laws.{never, wrote, no_room}
 use Rattle.book.specs.Book.{Rule, rule_of, judged, good_next, after_next, judge, check_book}
 use Rattle.book.specs.Rule.{good_rule}
-use Rattle.book.specs.declared.accept.Accepted.{Accepted}
-use Rattle.book.specs.declared.accept.Accepted.TheVariants.{Sound, Refused}
 use Rattle.book.specs.Accept.{accept}
 use Rattle.book.proofs.Laws.{good_facts, judge_next, check_empty, check_counted}
 use Rattle.text.specs.Number.{decimal}
@@ -29,13 +26,9 @@ use Rattle.text.proofs.KindTexts.{decimal_short}
 use Rattle.text.proofs.Rounds.{line_short}
 use Rattle.text.proofs.BookRounds.{side_facts, number_text_more, side_text_more, rule_text_more}
 use Rattle.text.proofs.Outcomes.{write_book_came_lem}
-use Rattle.text.proofs.Wrote.{Wrote, wrote_then, wrote_byte, word_after}
+use Rattle.text.proofs.Wrote.{Wrote, wrote_then, wrote_byte}
 
 -- ---- lines
-pub byte_next : (key out mid done : List ℕ) (at i : ℕ) → i < length key → mid ≡ sets out at (take i key) → done ≡ set mid (at + i) (get_or key i 0) → done ≡ sets out at (take (i + 1) key)
-byte_next key out mid done at i h e d =
-    rw (add-one i, take-suc key i 0 h) (word_after (take i key) out mid done at i (get_or key i 0) (length-take-le i key (omega arith)) e d)
-
 pub number_line_wrote : (out m1 m2 done key : List ℕ) (at to end n : ℕ) → Wrote out at to m1 key → Wrote m1 to end m2 (decimal n) → done ≡ set m2 end 10 → Wrote out at (end + 1) done (number_text key n [])
 unfolding number_text
 number_line_wrote out m1 m2 done key at to end n p q e =
@@ -86,18 +79,18 @@ pub record Next (number more : ℕ) (ws : List ℕ) : Type 0 where
   pub few : rule.vars ≤ 16
   pub left_few : length rule.left ≤ 64
   pub right_few : length rule.right ≤ 64
-  pub others : judge (suc number) more rest ≡ Good
+  pub others : judge (suc number) more rest ≡ Ok tt
 
-pub next_rule : (number more : ℕ) (ws : List ℕ) → judge number (suc more) ws ≡ Good → Next number more ws
+pub next_rule : (number more : ℕ) (ws : List ℕ) → judge number (suc more) ws ≡ Ok tt → Next number more ws
 next_rule number more ws g = go (rule_of ws) refl (sym (judge_next number more ws) ∙ g)
   where
-    one : (p : Rule × List ℕ) → rule_of ws ≡ some p → (b : Bool) → good_rule p.0.vars p.0.left p.0.right ≡ b → judged b (judge (suc number) more p.1) number ≡ Good → Next number more ws
+    one : (p : Rule × List ℕ) → rule_of ws ≡ some p → (b : Bool) → good_rule p.0.vars p.0.left p.0.right ≡ b → judged b (judge (suc number) more p.1) number ≡ Ok tt → Next number more ws
     one p e true q k =
         let f = good_facts p.0 q in
         record { rule = p.0; rest = p.1; is = e; few = f.few; left_few = (side_facts p.0.left f.left_tree).few; right_few = (side_facts p.0.right f.right_tree).few; others = k }
     one p e false q k = never (cc)
 
-    go : (o : Option (Rule × List ℕ)) → rule_of ws ≡ o → judged (good_next o) (judge (suc number) more (after_next o)) number ≡ Good → Next number more ws
+    go : (o : Option (Rule × List ℕ)) → rule_of ws ≡ o → judged (good_next o) (judge (suc number) more (after_next o)) number ≡ Ok tt → Next number more ws
     go none e k = never (cc)
     go (some p) e k = one p e (good_rule p.0.vars p.0.left p.0.right) refl k
 
@@ -142,11 +135,11 @@ pub rules_done : (number more : ℕ) (ws bs text : List ℕ) → more ≡ 0 → 
 unfolding rules_text
 rules_done number more ws bs text z t = t ∙ rw (z, append-nil bs)
 
-pub book_judged : (book : List ℕ) → check_book book ≡ Good → (1 ≤ length book) × (get_or book 0 0 ≤ 64) × (judge 0 (get_or book 0 0) (drop 1 book) ≡ Good)
+pub book_judged : (book : List ℕ) → check_book book ≡ Ok tt → (1 ≤ length book) × (get_or book 0 0 ≤ 64) × (judge 0 (get_or book 0 0) (drop 1 book) ≡ Ok tt)
 book_judged [] g = never (let z = check_empty in cc)
 book_judged (n ∷ ws) g = go (ltb 64 n) refl (sym (check_counted n ws) ∙ g)
   where
-    go : (b : Bool) → ltb 64 n ≡ b → pick b (Bad 64) (judge 0 n ws) ≡ Good → (1 ≤ length (n ∷ ws)) × (n ≤ 64) × (judge 0 n ws ≡ Good)
+    go : (b : Bool) → ltb 64 n ≡ b → pick b (Err 64) (judge 0 n ws) ≡ Ok tt → (1 ≤ length (n ∷ ws)) × (n ≤ 64) × (judge 0 n ws ≡ Ok tt)
     go true e k = never (cc)
     go false e k = (omega arith, ltb-false 64 n e, k)
 
@@ -156,18 +149,18 @@ book_parts [] h = absurd (omega arith)
 book_parts (n ∷ ws) h = ap (λ (x : List ℕ). book_line ++ x) (sym (number_text_more rules_key n [] (rules_text 0 n ws)))
 
 -- ---- what is answered
-module _ (room : ℕ) (text : List ℕ) (k : Accepted) where
-  pub text_over : (last : List ℕ) → k ≡ Sound → 65536 < length text → last ≡ replicate room 0 → (Short ≡ text_gives room text k) × (last ≡ text_leaves room text k)
+module _ (room : ℕ) (text : List ℕ) (k : Result (Unit {0}) Answer) where
+  pub text_over : (last : List ℕ) → k ≡ Ok tt → 65536 < length text → last ≡ replicate room 0 → (Short ≡ text_gives room text k) × (last ≡ text_leaves room text k)
   text_over last e h z = rw (e, lt-leb (length text) 65536 h) (refl, z)
 
-  pub text_short : (last : List ℕ) → k ≡ Sound → length text ≤ 65536 → room < length text → last ≡ replicate room 0 → (Short ≡ text_gives room text k) × (last ≡ text_leaves room text k)
+  pub text_short : (last : List ℕ) → k ≡ Ok tt → length text ≤ 65536 → room < length text → last ≡ replicate room 0 → (Short ≡ text_gives room text k) × (last ≡ text_leaves room text k)
   text_short last e l h z = rw (e, le-leb (length text) 65536 l, lt-leb (length text) room h) (refl, z ∙ (no_room room text h).1)
 
-  pub text_done : (zeros last : List ℕ) → k ≡ Sound → length text ≤ 65536 → length text ≤ room → zeros ≡ replicate room 0 → last ≡ sets zeros 0 text
+  pub text_done : (zeros last : List ℕ) → k ≡ Ok tt → length text ≤ 65536 → length text ≤ room → zeros ≡ replicate room 0 → last ≡ sets zeros 0 text
       → (Done ≡ text_gives room text k) × (last ≡ text_leaves room text k)
   text_done zeros last e l h z s = rw (e, le-leb (length text) 65536 l, le-leb (length text) room h) (refl, (wrote room text last h (s ∙ rw z)).1)
 
-  pub text_bad : (a : Answer) (last : List ℕ) → k ≡ Refused a → last ≡ replicate room 0 → (a ≡ text_gives room text k) × (last ≡ text_leaves room text k)
+  pub text_bad : (a : Answer) (last : List ℕ) → k ≡ Err a → last ≡ replicate room 0 → (a ≡ text_gives room text k) × (last ≡ text_leaves room text k)
   text_bad a last e z = rw e (refl, z)
 
 pub write_given : (room : ℕ) (book : List ℕ) (r : Answer) (last : List ℕ)

@@ -38,3 +38,5 @@ pub use Rattle.text.proofs.TermTexts.{first_words}
 pub use Rattle.text.proofs.Mailed.{rule_whole, line_within, present_end, present_bad, present_more, MailFacts, mail_facts, mail_line, mail_bytes, mail_long, mail_no_book, mail_no_count, mail_stating, book_mail}
 -- The numbers of the answers are small; a block of few bytes, and that what was written one after the other is one.
 pub use Rattle.text.proofs.Refusals.{number_small, Brief, as_block}
+-- What `ok_or` tells of the option that it was asked of.
+pub use Rattle.text.proofs.Calls.{some_asked, none_asked}

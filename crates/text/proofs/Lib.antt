@@ -3,6 +3,7 @@ mod Numbers
 mod Tokens
 mod Lines
 mod Digits
+mod Calls
 mod Letters
 mod Turns
 mod Wrote

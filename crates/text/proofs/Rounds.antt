@@ -8,7 +8,7 @@ use native.Mathlib.Omega.{arith}
 use lib.Dec.{leb}
 use lib.ListN.{length, length-append}
 use borrow.Author.Tests.{le-leb, leb-true}
-use Rattle.term.specs.declared.check.Checked.TheVariants.{Good}
+use Rattle.std.specs.Prelude.{Ok}
 use Rattle.term.specs.Word.{pick}
 use Rattle.term.specs.Row.{Row, nothing, node, words, width, Formed}
 use Rattle.term.specs.Check.{check, term_limits}
@@ -49,7 +49,7 @@ line_short [] = omega arith
 line_short (w ∷ ws) = rw (length-append (word_text w) (rest_text ws)) (omega (arith, word_short w, rest_short ws))
 
 -- ---- both ways
-pub term_said_lem : (ws : List ℕ) → check term_limits ws ≡ Good → term_said (line_text ws) ≡ says ws
+pub term_said_lem : (ws : List ℕ) → check term_limits ws ≡ Ok tt → term_said (line_text ws) ≡ says ws
 unfolding term_said
 term_said_lem ws g =
     let t = good_tree term_limits (omega arith) ws g in

@@ -6,13 +6,8 @@ use native.Mathlib.Omega.{arith}
 use lib.ListN.{length, drop, set, length-append}
 use lib.Seq.{sets, set_comm}
 use borrow.Author.Tests.{eq-eqb, ne_eqb}
-use Rattle.text.specs.declared.line.Line.TheVariants as lines
-use Rattle.text.specs.declared.number.Number.TheVariants as numbers
-use Rattle.text.specs.declared.rule_text.Rules as declared
-use Rattle.text.specs.declared.rule_text.Rules.TheVariants as rules
-use Rattle.text.specs.declared.rule_text.Vars.{Vars}
-use Rattle.text.specs.declared.rule_text.Vars.TheVariants as vars
-use Rattle.text.specs.BookText.{rule_key, vars_key, left_key, right_key, Rules, rules_are, bad_at, rule_read, behind, then_rules, rules_read}
+use Rattle.std.specs.Prelude.{Some, None, Result, Ok, Err}
+use Rattle.text.specs.BookText.{rule_key, left_key, right_key, Rules, rules_are, bad_at, rule_read, behind, then_rules, rules_read}
 use Rattle.text.specs.Mail.{any_rule_read}
 use Rattle.text.specs.Told.BookTold.{NumberLineTold, SideTold, sides_read, vars_read, VarsTold, RulesTold}
 use Rattle.text.proofs.BookLines.{side_line_is}
@@ -20,35 +15,29 @@ use Rattle.text.proofs.Wrote.{sets_append}
 
 -- ---- the lines `rule=` and `vars=`
 module _ (number : ℕ) (bs : List ℕ) (at : ℕ) where
-  pub no_vars : NumberLineTold vars_key 16 bs at numbers.None → vars_read number (drop at bs) ≡ bad_at (4 * number + 4)
-  no_vars t = rw t
-
-  pub vars_there : (v next : ℕ) → NumberLineTold vars_key 16 bs at (numbers.Read v next) → VarsTold (vars_read number) number bs at (vars.Read v next)
-  vars_there v next t = (rw t.0, t.3)
-
-  pub no_rule : NumberLineTold rule_key 63 bs at numbers.None → rule_read number (drop at bs) ≡ bad_at (4 * number + 3)
+  pub no_rule : NumberLineTold rule_key 63 bs at None → rule_read number (drop at bs) ≡ bad_at (4 * number + 3)
   unfolding rule_read
   no_rule t = rw t
 
-  pub any_no_rule : NumberLineTold rule_key 65535 bs at numbers.None → any_rule_read number (drop at bs) ≡ bad_at (4 * number + 3)
+  pub any_no_rule : NumberLineTold rule_key 65535 bs at None → any_rule_read number (drop at bs) ≡ bad_at (4 * number + 3)
   unfolding any_rule_read
   any_no_rule t = rw t
 
   module _ (k a : ℕ) where
-    pub other_rule : NumberLineTold rule_key 63 bs at (numbers.Read k a) → (k ≡ number → ⊥) → rule_read number (drop at bs) ≡ bad_at (4 * number + 3)
+    pub other_rule : NumberLineTold rule_key 63 bs at (Some (k, a)) → (k ≡ number → ⊥) → rule_read number (drop at bs) ≡ bad_at (4 * number + 3)
     unfolding rule_read
     other_rule t e = rw (t.0, ne_eqb k number e)
 
     -- where the line `rule=` is read, its reading goes on with `vars=`
-    vars_left : (o : List ℕ → Rules) → o (drop at bs) ≡ vars_read number (drop a bs) → (r : Vars) → VarsTold (vars_read number) number bs a r → VarsTold o number bs at r
-    vars_left o e (vars.Read v next) t = (e ∙ t.0, t.1)
-    vars_left o e (vars.Bad line) t = e ∙ t
+    vars_left : (o : List ℕ → Rules) → o (drop at bs) ≡ vars_read number (drop a bs) → (r : Result (ℕ × ℕ) ℕ) → VarsTold (vars_read number) number bs a r → VarsTold o number bs at r
+    vars_left o e (Ok (v, next)) t = (e ∙ t.0, t.1)
+    vars_left o e (Err line) t = e ∙ t
 
-    pub rule_left : NumberLineTold rule_key 63 bs at (numbers.Read k a) → k ≡ number → (r : Vars) → VarsTold (vars_read number) number bs a r → VarsTold (rule_read number) number bs at r
+    pub rule_left : NumberLineTold rule_key 63 bs at (Some (k, a)) → k ≡ number → (r : Result (ℕ × ℕ) ℕ) → VarsTold (vars_read number) number bs a r → VarsTold (rule_read number) number bs at r
     unfolding rule_read
     rule_left t e r u = vars_left (rule_read number) (rw (t.0, eq-eqb k number e)) r u
 
-    pub any_left : NumberLineTold rule_key 65535 bs at (numbers.Read k a) → (r : Vars) → VarsTold (vars_read number) number bs a r → VarsTold (any_rule_read number) number bs at r
+    pub any_left : NumberLineTold rule_key 65535 bs at (Some (k, a)) → (r : Result (ℕ × ℕ) ℕ) → VarsTold (vars_read number) number bs a r → VarsTold (any_rule_read number) number bs at r
     unfolding any_rule_read
     any_left t r u = vars_left (any_rule_read number) (rw t.0) r u
 
@@ -73,17 +62,11 @@ header out ws to v l r =
 
 -- ---- the lines `left=` and `right=`
 module _ (number v : ℕ) (bs : List ℕ) (at to : ℕ) (out : List ℕ) where
-  pub no_left : (done : List ℕ) → SideTold left_key bs at (to + 3) out done lines.Bad → sides_read number v (drop at bs) ≡ bad_at (4 * number + 5)
-  no_left done t = rw t
-
-  module _ (l a : ℕ) (mid : List ℕ) (t : SideTold left_key bs at (to + 3) out mid (lines.Words l a)) where
+  module _ (l a : ℕ) (mid : List ℕ) (t : SideTold left_key bs at (to + 3) out mid (Some (l, a))) where
     pub left_few : l ≤ 64
     left_few = omega (arith, (side_line_is left_key (drop at bs) t.0 (drop a bs) t.1).1, t.2)
 
-    pub no_right : (done : List ℕ) → SideTold right_key bs a (to + 3 + l) mid done lines.Bad → sides_read number v (drop at bs) ≡ bad_at (4 * number + 6)
-    no_right done u = rw (t.1, u)
-
-    module _ (r next : ℕ) (done : List ℕ) (u : SideTold right_key bs a (to + 3 + l) mid done (lines.Words r next)) where
+    module _ (r next : ℕ) (done : List ℕ) (u : SideTold right_key bs a (to + 3 + l) mid done (Some (r, next))) where
       pub right_few : r ≤ 64
       right_few = omega (arith, (side_line_is right_key (drop a bs) u.0 (drop next bs) u.1).1, u.2)
 
@@ -91,7 +74,7 @@ module _ (number v : ℕ) (bs : List ℕ) (at to : ℕ) (out : List ℕ) where
       both_lie = u.3 ∙ rw (t.3, ← t.2) (sym (sets_append t.0 u.0 out (to + 3)))
 
       pub sides_there : (last : List ℕ) → last ≡ set (set (set done to v) (to + 1) l) (to + 2) r
-          → RulesTold (sides_read number v) 131 bs at to out last (rules.Words (3 + l + r) next)
+          → RulesTold (sides_read number v) 131 bs at to out last (Ok (3 + l + r, next))
       sides_there last e = (
         v ∷ length t.0 ∷ length u.0 ∷ (t.0 ++ u.0),
         rw (t.1, u.1),
@@ -100,11 +83,6 @@ module _ (number v : ℕ) (bs : List ℕ) (at to : ℕ) (out : List ℕ) where
         u.4,
         omega (arith, left_few, right_few),
       )
-
-pub rule_there : (o : List ℕ → Rules) (number v : ℕ) (bs : List ℕ) (at a to : ℕ) (out done : List ℕ) (r : declared.Rules) → VarsTold o number bs at (vars.Read v a)
-    → RulesTold (sides_read number v) 131 bs a to out done r → RulesTold o 131 bs at to out done r
-rule_there o number v bs at a to out done (rules.Words n next) t u = (u.0, t.0 ∙ u.1, u.2, u.3, u.4, u.5)
-rule_there o number v bs at a to out done (rules.Bad line) t u = t.0 ∙ u
 
 -- ---- rules one after the other
 behind_behind : (ws vs : List ℕ) (o : Rules) → behind ws (behind vs o) ≡ behind (ws ++ vs) o

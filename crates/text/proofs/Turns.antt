@@ -8,7 +8,7 @@ use native.Mathlib.Numerals.{add-one}
 use lib.ListN.{length, drop, get_or, drop_of_length-le}
 use lib.Seq.{drop-cons}
 use borrow.Author.Tests.{eq-eqb, ne_eqb}
-use Rattle.text.specs.declared.token.Token.TheVariants as tokens
+use Rattle.std.specs.Prelude.{Some, None}
 use Rattle.text.specs.Number.{Read}
 use Rattle.text.specs.Token.{token}
 use Rattle.text.specs.Line.{ahead, token_end, token_then, line}
@@ -40,10 +40,10 @@ module _ (most : ℕ) (bs : List ℕ) (at : ℕ) where
       unfolding line
       one_more_lem = let z : most - n ≡ suc (most - (n + 1)) = omega arith in left ∙ rw z
 
-      pub no_token : TokenTold bs i tokens.None → line most (drop at bs) ≡ none
+      pub no_token : TokenTold bs i None → line most (drop at bs) ≡ none
       no_token t = one_more_lem ∙ rw t
 
-      module _ (w end : ℕ) (t : TokenTold bs i (tokens.Word w end)) where
+      module _ (w end : ℕ) (t : TokenTold bs i (Some (w, end))) where
         read_on : line most (drop at bs) ≡ ahead ws (token_end (line (most - (n + 1))) w (drop end bs))
         read_on = one_more_lem ∙ rw (t.2, t.1)
 

@@ -1,13 +1,11 @@
 -- Document 01, "Text and program": a book is the lines `book=1`, `rules=`, and then per rule `rule=`, `vars=`, `left=`, `right=`.
-use Rattle.std.specs.Prelude.{ℕ, zero, suc, ◌+◌, ◌*◌, List, [], ◌∷◌, ◌++◌, leb, eqb, length, replicate, get_or}
+use Rattle.std.specs.Prelude.{ℕ, zero, suc, ◌+◌, ◌*◌, List, [], ◌∷◌, ◌++◌, leb, eqb, length, replicate, get_or, Result, Ok, Err}
 use Rattle.std.proofs.Math.Option.{Option, none, some}
 use Rattle.term.specs.declared.answer.Answer.{Answer}
 use Rattle.term.specs.declared.answer.Answer.TheVariants.{BadText, Short}
 use Rattle.term.specs.Answer.{Answered, answered}
 use Rattle.term.specs.Word.{pick}
 use Rattle.book.specs.Book.{Rule, rule_of, after_next}
-use Rattle.book.specs.declared.accept.Accepted.{Accepted}
-use Rattle.book.specs.declared.accept.Accepted.TheVariants.{Sound, Refused}
 use Rattle.book.specs.Accept.{accept}
 use Rattle.text.specs.Bytes.{byte, bytes}
 use Rattle.text.specs.Given.{given_answer, given_left}
@@ -159,13 +157,13 @@ read_book_words room (says ws) = given_left room ws (accept ws)
 read_book_words room (bad_line at) = replicate room 0
 
 -- a text over 65,536 bytes is not written, whatever the room
-abbrev pub text_gives : ℕ → List ℕ → Accepted → Answer
-text_gives room text Sound = pick (leb (length text) 65536) (given_answer room text Sound) Short
-text_gives room text (Refused a) = a
+abbrev pub text_gives : ℕ → List ℕ → Result (Unit {0}) Answer → Answer
+text_gives room text (Ok _) = pick (leb (length text) 65536) (given_answer room text (Ok tt)) Short
+text_gives room text (Err a) = a
 
-abbrev pub text_leaves : ℕ → List ℕ → Accepted → List ℕ
-text_leaves room text Sound = pick (leb (length text) 65536) (given_left room text Sound) (replicate room 0)
-text_leaves room text (Refused a) = replicate room 0
+abbrev pub text_leaves : ℕ → List ℕ → Result (Unit {0}) Answer → List ℕ
+text_leaves room text (Ok _) = pick (leb (length text) 65536) (given_left room text (Ok tt)) (replicate room 0)
+text_leaves room text (Err a) = replicate room 0
 
 unfoldable pub write_book_answer : ℕ → List ℕ → Answer
 write_book_answer room ws = text_gives room (book_text ws) (accept ws)

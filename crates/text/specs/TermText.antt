@@ -1,15 +1,11 @@
 -- Document 01, "Text and program": a term by itself is one line of 1 to 4,096 tokens, and a text has at most 65,536 bytes.
-use Rattle.std.specs.Prelude.{ℕ, List, [], ◌∷◌, leb, length, replicate}
+use Rattle.std.specs.Prelude.{ℕ, List, [], ◌∷◌, leb, length, replicate, Result, Ok, Err}
 use Rattle.std.proofs.Math.Option.{none, some}
 use Rattle.term.specs.declared.answer.Answer.{Answer}
 use Rattle.term.specs.declared.answer.Answer.TheVariants.{BadText, BadTerm}
-use Rattle.term.specs.declared.check.Checked.{Checked}
-use Rattle.term.specs.declared.check.Checked.TheVariants.{Good, Bad}
 use Rattle.term.specs.Answer.{Answered, answered}
 use Rattle.term.specs.Word.{pick}
 use Rattle.term.specs.Check.{check, term_limits}
-use Rattle.book.specs.declared.accept.Accepted.{Accepted}
-use Rattle.book.specs.declared.accept.Accepted.TheVariants.{Sound, Refused}
 use Rattle.text.specs.Given.{given_answer, given_left}
 use Rattle.text.specs.Number.{Read}
 use Rattle.text.specs.Line.{line_text, line}
@@ -32,11 +28,11 @@ unfoldable pub term_said : List ℕ → Said
 term_said bs = pick (leb (length bs) 65536) (one_line (line 4096 bs)) (bad_line 0)
 
 -- ---- whether a term is accepted, or the answer that refuses it: "bad term: at = bad place"
-abbrev pub judged_term : Checked → Accepted
-judged_term Good = Sound
-judged_term (Bad at) = Refused (BadTerm at)
+abbrev pub judged_term : Result (Unit {0}) ℕ → Result (Unit {0}) Answer
+judged_term (Ok _) = Ok tt
+judged_term (Err at) = Err (BadTerm at)
 
-unfoldable pub accept_term : List ℕ → Accepted
+unfoldable pub accept_term : List ℕ → Result (Unit {0}) Answer
 accept_term ws = judged_term (check term_limits ws)
 
 -- ---- answers, and what is left in a lent slice of `room`

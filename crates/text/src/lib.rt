@@ -1,4 +1,6 @@
 // Books and terms as text: document 01's "Text and program".
+// A reader takes the text and an offset and gives the offset after, as the definitions of specs/Told say it; a rest of the text would not tell that.
+// A writer takes the lent bytes and an offset and gives the offset after, also past the end, where nothing is written: Short is told by it.
 #![tactic(auto)]
 
 pub mod book_text;

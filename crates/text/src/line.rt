@@ -4,47 +4,35 @@ ghost use Rattle.std.proofs.lemmas.List.Edits.{sets};
 ghost use Rattle.text.specs.Line.{rest_text, line_text};
 ghost use Rattle.text.specs.Told.Told.{LineTold};
 
-use crate::lent::put_byte;
-use crate::token::{Token, read_token, write_token};
+use crate::token::{read_token, write_token};
 use term::lent::put;
-
-// So many words and the offset after the line, or no such line.
-#[derive(Clone, Copy)]
-pub enum Line {
-    Words(usize, usize),
-    Bad,
-}
 
 pub const END: u8 = b'\n';
 
 pub const BLANK: u8 = b' ';
 
-// Reads a line of 1 to `most` tokens from `at` on; its words go into `out` from `to` on.
-pub fn read_line(text: &[u8], at: usize, most: usize, out: &mut [u32], to: usize) -> Line
+// Reads a line of 1 to `most` tokens from `at` on; its words go into `out` from `to` on. So many words and the offset after the line.
+pub fn read_line(
+    text: &[u8],
+    at: usize,
+    most: usize,
+    out: &mut [u32],
+    to: usize,
+) -> Option<(usize, usize)>
     requires { (most ≤ 4096) × (to ≤ 65536) }
     ensures { LineTold most text.now at to out.old out.new result }
 {
-    let mut n: usize = 0;
     let mut i = at;
-    while n < most {
-        let Token::Word(w, end) = read_token(text, i) else {
-            return Line::Bad;
-        };
+    for n in 0..most {
+        let (w, end) = read_token(text, i)?;
         put(out, to + n, w);
-        n = n + 1;
-        if text.len() <= end {
-            return Line::Bad;
+        match *text.get(end)? {
+            END => return Some((n + 1, end + 1)),
+            BLANK => i = end + 1,
+            _ => return None,
         }
-        let b = text[end];
-        if b == END {
-            return Line::Words(n, end + 1);
-        }
-        if b != BLANK {
-            return Line::Bad;
-        }
-        i = end + 1;
     }
-    Line::Bad
+    None
 }
 
 // Writes the tokens of a line after its first, and its end; the offset after it.
@@ -53,13 +41,11 @@ fn write_rest(words: &[u32], out: &mut [u8], at: usize) -> usize
     ensures { (result ≡ at + length (rest_text words.now)) × (out.new ≡ sets out.old at (rest_text words.now)) }
 {
     let mut to = at;
-    let mut i: usize = 0;
-    while i < words.len() {
-        put_byte(out, to, BLANK);
-        to = write_token(out, to + 1, words[i]);
-        i = i + 1;
+    for word in words {
+        put(out, to, BLANK);
+        to = write_token(out, to + 1, *word);
     }
-    put_byte(out, to, END);
+    put(out, to, END);
     to + 1
 }
 
@@ -68,8 +54,8 @@ pub fn write_line(words: &[u32], out: &mut [u8], at: usize) -> usize
     requires { (length words.now ≤ 4096) × (at ≤ 1000000) }
     ensures { (result ≡ at + length (line_text words.now)) × (out.new ≡ sets out.old at (line_text words.now)) }
 {
-    if words.len() == 0 {
-        put_byte(out, at, END);
+    if words.is_empty() {
+        put(out, at, END);
         return at + 1;
     }
     let to = write_token(out, at, words[0]);

@@ -7,7 +7,7 @@ ghost use Rattle.text.specs.Refusal.{refusal_block};
 use crate::write_book::write_number_line;
 use term::answer::{Answer, number, place};
 
-// Refusals are from this number up.
+// Refusals are from this number up, as refused of specs/Refusal.antt asks.
 pub const FIRST_REFUSAL: u32 = 10;
 
 // Writes the two lines; the offset after them.

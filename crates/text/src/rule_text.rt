@@ -4,8 +4,6 @@ ghost use Rattle.text.specs.BookText.{rule_read, rules_read};
 ghost use Rattle.text.specs.Told.BookTold.{vars_read, VarsTold, sides_read, RulesTold};
 
 use crate::key::{read_number_line, read_side};
-use crate::line::Line;
-use crate::number::Number;
 use book::limits::{MOST_RULES, MOST_VARS};
 use term::lent::put;
 
@@ -24,41 +22,23 @@ const LEFT_LINE: usize = 5;
 
 const RIGHT_LINE: usize = 6;
 
-// So many words and the offset after their lines, or the first line that is not in form.
-#[derive(Clone, Copy)]
-pub enum Rules {
-    Words(usize, usize),
-    Bad(usize),
-}
-
-// A rule's variables and the offset after their line, or the first line that is not in form.
-#[derive(Clone, Copy)]
-pub enum Vars {
-    Read(u32, usize),
-    Bad(usize),
-}
-
-// Reads the line `vars=` of the rule with this number.
-pub fn read_vars_line(text: &[u8], at: usize, number: usize) -> Vars
+// Reads the line `vars=` of the rule with this number: its variables and the offset after the line, or the line, which is not in form.
+pub fn read_vars_line(text: &[u8], at: usize, number: usize) -> Result<(u32, usize), usize>
     requires { (at ≤ length text.now) × (number ≤ 65536) }
     ensures { VarsTold (vars_read number) number text.now at result }
 {
-    let Number::Read(vars, next) = read_number_line(text, at, b"vars=", MOST_VARS) else {
-        return Vars::Bad(LINES * number + VARS_LINE);
-    };
-    Vars::Read(vars, next)
+    read_number_line(text, at, b"vars=", MOST_VARS).ok_or(LINES * number + VARS_LINE)
 }
 
 // Reads the lines `rule=` and `vars=` of the rule with this number.
-fn read_vars(text: &[u8], at: usize, number: usize) -> Vars
+fn read_vars(text: &[u8], at: usize, number: usize) -> Result<(u32, usize), usize>
     requires { (at ≤ length text.now) × (number ≤ 63) }
     ensures { VarsTold (rule_read number) number text.now at result }
 {
-    let Number::Read(k, vars_at) = read_number_line(text, at, b"rule=", LAST_RULE) else {
-        return Vars::Bad(LINES * number + RULE_LINE);
-    };
+    let line = LINES * number + RULE_LINE;
+    let (k, vars_at) = read_number_line(text, at, b"rule=", LAST_RULE).ok_or(line)?;
     if k as usize != number {
-        return Vars::Bad(LINES * number + RULE_LINE);
+        return Err(line);
     }
     read_vars_line(text, vars_at, number)
 }
@@ -73,7 +53,7 @@ fn put_header(out: &mut [u32], to: usize, vars: u32, left: usize, right: usize)
     put(out, to + 2, right as u32);
 }
 
-// Reads the lines `left=` and `right=`; the words of the rule go into `out` from `to` on.
+// Reads the lines `left=` and `right=`; the words of the rule go into `out` from `to` on. So many words and the offset after their lines, or the first line that is not in form.
 pub fn read_sides(
     text: &[u8],
     at: usize,
@@ -81,50 +61,50 @@ pub fn read_sides(
     vars: u32,
     out: &mut [u32],
     to: usize,
-) -> Rules
+) -> Result<(usize, usize), usize>
     requires { (at ≤ length text.now) × (number ≤ 65536) × (to ≤ 60000) }
     ensures { RulesTold (sides_read number vars) 131 text.now at to out.old out.new result }
 {
-    let Line::Words(left, right_at) = read_side(text, at, b"left=", out, to + 3) else {
-        return Rules::Bad(LINES * number + LEFT_LINE);
-    };
-    let Line::Words(right, next) = read_side(text, right_at, b"right=", out, to + 3 + left) else {
-        return Rules::Bad(LINES * number + RIGHT_LINE);
-    };
+    let line = LINES * number;
+    let (left, right_at) = read_side(text, at, b"left=", out, to + 3).ok_or(line + LEFT_LINE)?;
+    let (right, next) = read_side(text, right_at, b"right=", out, to + 3 + left).ok_or(
+        line + RIGHT_LINE,
+    )?;
     put_header(out, to, vars, left, right);
-    Rules::Words(3 + left + right, next)
+    Ok((3 + left + right, next))
 }
 
 // Reads the lines of the rule with this number; its words go into `out` from `to` on.
-pub fn read_rule(text: &[u8], at: usize, number: usize, out: &mut [u32], to: usize) -> Rules
+pub fn read_rule(
+    text: &[u8],
+    at: usize,
+    number: usize,
+    out: &mut [u32],
+    to: usize,
+) -> Result<(usize, usize), usize>
     requires { (at ≤ length text.now) × (number ≤ 63) × (to ≤ 60000) }
     ensures { RulesTold (rule_read number) 131 text.now at to out.old out.new result }
 {
-    match read_vars(text, at, number) {
-        Vars::Read(vars, next) => read_sides(text, next, number, vars, out, to),
-        Vars::Bad(line) => Rules::Bad(line),
-    }
+    let (vars, next) = read_vars(text, at, number)?;
+    read_sides(text, next, number, vars, out, to)
 }
 
 // Reads so many rules; their words go into `out` from 1 on.
-pub fn read_rules(text: &[u8], at: usize, count: usize, out: &mut [u32]) -> Rules
+pub fn read_rules(
+    text: &[u8],
+    at: usize,
+    count: usize,
+    out: &mut [u32],
+) -> Result<(usize, usize), usize>
     requires { (at ≤ length text.now) × (count ≤ 64) }
     ensures { RulesTold (rules_read 0 count) 8384 text.now at 1 out.old out.new result }
 {
     let mut a = at;
     let mut n: usize = 0;
-    let mut number: usize = 0;
-    while number < count {
-        match read_rule(text, a, number, out, n + 1) {
-            Rules::Words(m, next) => {
-                n = n + m;
-                a = next;
-                number = number + 1;
-            }
-            Rules::Bad(line) => {
-                return Rules::Bad(line);
-            }
-        }
+    for number in 0..count {
+        let (m, next) = read_rule(text, a, number, out, n + 1)?;
+        n += m;
+        a = next;
     }
-    Rules::Words(n, a)
+    Ok((n, a))
 }

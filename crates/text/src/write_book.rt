@@ -1,29 +1,35 @@
 // Writes a book as text.
-ghost use Rattle.std.specs.Prelude.{◌≡◌, [], ◌+◌, ◌≤◌, length, get_or, drop};
+ghost use Rattle.std.specs.Prelude.{◌≡◌, [], ◌+◌, ◌≤◌, length, get_or, drop, Ok};
 ghost use Rattle.std.proofs.lemmas.List.Edits.{sets};
-ghost use Rattle.term.specs.declared.check.Checked.TheVariants.{Good};
 ghost use Rattle.term.specs.Answer.{answered};
 ghost use Rattle.book.specs.Book.{Rule, check_book};
 ghost use Rattle.text.specs.BookText.{number_text, side_text, rule_text, rules_text, book_text, write_book_came, write_book_gives};
 
-use crate::lent::{clear_bytes, put_byte};
+use crate::lent::{clear_bytes, put_all};
 use crate::line::{END, write_line};
 use crate::number::write_number;
 use crate::term_text::MOST_BYTES;
-use book::accept::{Accepted, accept_book};
+use book::accept::accept_book;
 use term::answer::Answer;
+use term::lent::put;
+
+// Before the sides of a rule stand its variables, the length of the left side and that of the right side.
+const LEFT_SIZE: usize = 1;
+
+const RIGHT_SIZE: usize = 2;
+
+const HEADER: usize = 3;
+
+// The first rule stands behind the number of rules.
+const FIRST_RULE: usize = 1;
 
 // Writes a key; the offset after it.
 pub fn put_key(out: &mut [u8], at: usize, key: &[u8]) -> usize
     requires { (at ≤ 900000) × (length key.now ≤ 10) }
     ensures { (result ≡ at + length key.now) × (out.new ≡ sets out.old at key.now) }
 {
-    let mut i: usize = 0;
-    while i < key.len() {
-        put_byte(out, at + i, key[i]);
-        i = i + 1;
-    }
-    at + i
+    put_all(out, at, key);
+    at + key.len()
 }
 
 // Writes a line of a key and a number; the offset after it.
@@ -33,7 +39,7 @@ pub fn write_number_line(out: &mut [u8], at: usize, key: &[u8], n: u32) -> usize
 {
     let to = put_key(out, at, key);
     let end = write_number(out, to, n);
-    put_byte(out, end, END);
+    put(out, end, END);
     end + 1
 }
 
@@ -67,17 +73,17 @@ fn write_rule(
 
 // Writes the rules of a book; the offset after them.
 fn write_rules(out: &mut [u8], at: usize, book: &[u32]) -> usize
-    requires { (at ≤ 1000) × (check_book book.now ≡ Good) }
+    requires { (at ≤ 1000) × (check_book book.now ≡ Ok tt) }
     ensures { (result ≡ at + length (rules_text 0 (get_or book.now 0 0) (drop 1 book.now)))
         × (out.new ≡ sets out.old at (rules_text 0 (get_or book.now 0 0) (drop 1 book.now))) }
 {
     let mut to = at;
-    let mut a: usize = 1;
-    let mut number: u32 = 0;
-    while number < book[0] {
-        let left = a + 3;
-        let right = left + book[a + 1] as usize;
-        let end = right + book[a + 2] as usize;
+    let mut a = FIRST_RULE;
+    // The header is read here: an accepted book has the rule, and the None of find_rule would be a branch that gives up.
+    for number in 0..book[0] {
+        let left = a + HEADER;
+        let right = left + book[a + LEFT_SIZE] as usize;
+        let end = right + book[a + RIGHT_SIZE] as usize;
         to = write_rule(
             out,
             to,
@@ -87,14 +93,13 @@ fn write_rules(out: &mut [u8], at: usize, book: &[u32]) -> usize
             &book[right..end],
         );
         a = end;
-        number = number + 1;
     }
     to
 }
 
 // Writes an accepted book; the offset after its text.
 pub fn write_good(book: &[u32], out: &mut [u8]) -> usize
-    requires { check_book book.now ≡ Good }
+    requires { check_book book.now ≡ Ok tt }
     ensures { (result ≡ 0 + length (book_text book.now)) × (out.new ≡ sets out.old 0 (book_text book.now)) }
 {
     let count_at = put_key(out, 0, b"book=1\n");
@@ -107,19 +112,13 @@ pub fn write_book(book: &[u32], out: &mut [u8]) -> Answer
     ensures { write_book_came (answered result) out.new ≡ write_book_gives book.now (length out.old) }
 {
     clear_bytes(out);
-    match accept_book(book) {
-        Accepted::Sound => {
-            let end = write_good(book, out);
-            if MOST_BYTES < end {
-                clear_bytes(out);
-                return Answer::Short;
-            }
-            if out.len() < end {
-                clear_bytes(out);
-                return Answer::Short;
-            }
-            Answer::Done
-        }
-        Accepted::Refused(answer) => answer,
+    if let Err(answer) = accept_book(book) {
+        return answer;
     }
+    let end = write_good(book, out);
+    if MOST_BYTES < end || out.len() < end {
+        clear_bytes(out);
+        return Answer::Short;
+    }
+    Answer::Done
 }

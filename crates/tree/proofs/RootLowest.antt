@@ -5,7 +5,7 @@ use mathlib.Core.List.{List, []}
 use mathlib.Core.Option.{Option, none, some}
 use Prim.Native.Nat.{ℕ, zero, suc}
 use lib.ListN.{get_or}
-use Rattle.term.specs.declared.check.Checked.TheVariants.{Good}
+use Rattle.std.specs.Prelude.{Ok}
 use Rattle.term.specs.Row.{Row, width, Formed}
 use Rattle.term.specs.Check.{IsTerm}
 use Rattle.book.specs.Book.{Rule, check_book, rule_at}
@@ -36,10 +36,10 @@ front_lowest book t (suc more) number =
     ∙ sym (lowest_front_more book number more t)
 
 -- THE THEOREM, for an accepted book: its tree finds the lowest rule that fits the term without the arguments set aside, with their number and its bodies
-pub book_tree_lem : (book : List ℕ) → check_book book ≡ Good → (t : Row) → Formed t → width t ≡ 1 → find (book_tree book) (root_part t) ≡ lowest_front book 0 (get_or book 0 0) t
+pub book_tree_lem : (book : List ℕ) → check_book book ≡ Ok tt → (t : Row) → Formed t → width t ≡ 1 → find (book_tree book) (root_part t) ≡ lowest_front book 0 (get_or book 0 0) t
 book_tree_lem book accepted t w one = first_of_tree book accepted t w one ∙ front_lowest book t (get_or book 0 0) 0
 
 -- and so the lowest rule for which some bodies, of all there could be, turn its left side into that term; none only where there is none
-pub book_tree_lowest : (book : List ℕ) → check_book book ≡ Good → (ws : List ℕ) (i : IsTerm ws)
+pub book_tree_lowest : (book : List ℕ) → check_book book ≡ Ok tt → (ws : List ℕ) (i : IsTerm ws)
     → LowestFrontIs book 0 (get_or book 0 0) i.tree (find (book_tree book) (root_part i.tree))
 book_tree_lowest book accepted ws i = rw (book_tree_lem book accepted i.tree i.formed i.one) (book_lowest_front book accepted ws i)

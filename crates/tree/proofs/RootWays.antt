@@ -8,7 +8,7 @@ use mathlib.Core.Logic.{◌⊎◌, inl, inr}
 use Prim.Native.Nat.{ℕ, ◌+◌, ◌-◌, ◌≤◌, ◌<◌}
 use native.Mathlib.Omega.{arith}
 use lib.ListN.{length, get_or}
-use Rattle.term.specs.declared.check.Checked.TheVariants.{Good}
+use Rattle.std.specs.Prelude.{Ok}
 use Rattle.term.specs.Word.{Head, symbol, abstraction, variable, pattern, count, pick, InTable}
 use Rattle.term.specs.Row.{Row, nothing, node, width, Formed}
 use Rattle.term.proofs.Laws.{never, count_symbol, width_nothing}
@@ -161,7 +161,7 @@ module _ (vars : ℕ → ℕ) (fits : LeafNode → Bool) where
   root_walks (node g ts rs) w one (row ∷ rows) good a s = switch_walks g ts rs w one (row ∷ rows) good a s
 
 -- ---- an accepted book
-module _ (book : List ℕ) (accepted : check_book book ≡ Good) (t : Row) (w : Formed t) (wide : width t ≡ 1) (fits : LeafNode → Bool) (ok : FitsBook book (root_count t) fits) where
+module _ (book : List ℕ) (accepted : check_book book ≡ Ok tt) (t : Row) (w : Formed t) (wide : width t ≡ 1) (fits : LeafNode → Bool) (ok : FitsBook book (root_count t) fits) where
   -- THE THEOREM: the tree of an accepted book is walked soundly in every term, to the lowest rule that fits the term without the arguments set aside
   pub book_walks : Walks (vars_in book) fits (book_tree book) (root_part t) (lowest_front book 0 (get_or book 0 0) t)
   unfolding book_tree

@@ -10,7 +10,7 @@ use native.Mathlib.Omega.{arith}
 use lib.Dec.{ltb}
 use lib.ListN.{get_or}
 use borrow.Author.Tests.{eq-eqb, eqb-true}
-use Rattle.term.specs.declared.check.Checked.TheVariants.{Good}
+use Rattle.std.specs.Prelude.{Ok}
 use Rattle.term.specs.Word.{Head, symbol, word, count, pick, InTable}
 use Rattle.term.specs.Row.{Row, nothing, node, width, Formed, firsts}
 use Rattle.term.specs.Part.{is_some, same_o}
@@ -383,7 +383,7 @@ root_tree_first (node g ts rs) w one [] a s = refl
 root_tree_first (node g ts rs) w one (row ∷ rows) a s = root_switch g ts rs w one (row ∷ rows) a s
 
 -- ---- the rows of an accepted book
-module _ (book : List ℕ) (accepted : check_book book ≡ Good) where
+module _ (book : List ℕ) (accepted : check_book book ≡ Ok tt) where
   rooted_then : (number : ℕ) (rows : List RuleRow) → AllRooted rows → (o : Option Rule) → rule_at book number ≡ o → AllRooted (row_then number o rows)
   rooted_then number rows s none e = s
   rooted_then number rows s (some rule) e = (rooted rule.vars (left_in rule) (accepted_good book accepted number rule e) (accepted_root book accepted number rule e), s)

@@ -7,7 +7,7 @@ use mathlib.Core.Logic.{◌⊎◌, inl, inr}
 use Prim.Native.Nat.{ℕ, zero, suc, ◌+◌, ◌≤◌, ◌<◌}
 use native.Mathlib.Omega.{arith}
 use lib.ListN.{length}
-use Rattle.term.specs.declared.check.Checked.TheVariants.{Good}
+use Rattle.std.specs.Prelude.{Ok}
 use Rattle.term.specs.Word.{Head, pick, InTable}
 use Rattle.term.specs.Row.{Row, width, Formed}
 use Rattle.term.specs.Part.{is_some, same_o}
@@ -357,7 +357,7 @@ counts_are ws us os a zero y h = tt
 counts_are ws us os a (suc more) y h =
     (first_count ws us os a y (first_of y os) refl (h y (omega arith) (omega arith)), counts_are ws us os a more (suc y) (λ z p q. h z (omega arith) (omega arith)))
 
-module _ (book : List ℕ) (accepted : check_book book ≡ Good) (a : ℕ) (fits : LeafNode → Bool) (ok : FitsBook book a fits) where
+module _ (book : List ℕ) (accepted : check_book book ≡ Ok tt) (a : ℕ) (fits : LeafNode → Bool) (ok : FitsBook book a fits) where
   rule_facts : (number : ℕ) (rule : Rule) → rule_at book number ≡ some rule → (n : ℕ) → n + root_arguments (left_in rule) ≡ a
       → RowFacts (vars_in book) fits (record { number = number; vars = rule.vars; left = left_in rule; aside = n })
   rule_facts number rule e n sum =

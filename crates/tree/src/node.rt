@@ -1,5 +1,5 @@
 // What stands in the words of a tree.
-// A node's first word says what it is.
+// A node's first word says what it is. The tags are numbers, since a tree's words lie in memory that C lends.
 pub const FAIL: u32 = 0;
 
 pub const LEAF: u32 = 1;

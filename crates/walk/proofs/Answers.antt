@@ -2,12 +2,12 @@
 use mathlib.Core.Path.{◌≡◌, refl, sym, ◌∙◌}
 use mathlib.Core.Bool.{Bool, true, false}
 use mathlib.Core.List.{List}
-use Prim.Native.Nat.{ℕ, zero, suc, ◌+◌, ◌≤◌, ◌<◌}
+use Prim.Native.Nat.{ℕ, ◌+◌, ◌≤◌, ◌<◌}
 use native.Mathlib.Omega.{arith}
 use lib.ListN.{length, get_or, replicate, drop, length-drop}
 use lib.Seq.{drop-drop}
 use borrow.Author.Tests.{le-leb, lt-leb}
-use Rattle.term.specs.declared.check.Checked.TheVariants.{Good, Bad}
+use Rattle.std.specs.Prelude.{Ok, Err}
 use Rattle.term.specs.declared.answer.Answer.{Answer}
 use Rattle.term.specs.declared.answer.Answer.TheVariants as answer
 use Rattle.term.specs.Answer.{answered}
@@ -21,6 +21,8 @@ use Rattle.tree.specs.Tree.{LeafNode}
 use Rattle.tree.specs.Find.{root_count, root_part}
 use Rattle.walk.specs.Walk.{NoneFits, DamagedAt, walk_from, walk, visits, no_book}
 use Rattle.walk.specs.declared.state.Walk.{Walk}
+use Rattle.walk.specs.declared.state.Stands.{Stands}
+use Rattle.walk.specs.declared.state.Stands.TheVariants as stands
 use Rattle.walk.specs.declared.by_tree.TreeMatch.{TreeMatch}
 use Rattle.walk.specs.Told.State.{part_from, places_of, Parted, Holds, leaf_rule, LeafSound, LeafFound, Stood, Standing, WalkTold, walked_here, visits_here, walked_gives, FindsNone, LeafWritten}
 use Rattle.walk.specs.ByTree.{match_tree, match_tree_rule, match_tree_visits, MatchTreeOutcome, match_tree_came, rule_gives, match_tree_gives}
@@ -49,35 +51,27 @@ module _ (table term : List ℕ) (s : Walk) (t : WalkTold table term s) where
   unfolding WalkTold
   ended_visits = t.2
 
-  pub ended_none : s.stands ≡ 1 → (fits : LeafNode → Bool) → walk_from fits table 0 (root_part (part_from term 0)) ≡ NoneFits
+  pub ended_none : s.stands ≡ stands.NoRule → (fits : LeafNode → Bool) → walk_from fits table 0 (root_part (part_from term 0)) ≡ NoneFits
   unfolding WalkTold Standing
-  ended_none z fits = go s.stands z t.0.1
-    where
-      go : (n : ℕ) → n ≡ 1 → Stood table term (λ fits. walk_from fits table 0 (root_part (part_from term 0))) s n → walk_from fits table 0 (root_part (part_from term 0)) ≡ NoneFits
-      go zero z e = absurd (omega arith)
-      go (suc zero) z e = e fits
-      go (suc (suc n)) z e = absurd (omega arith)
+  ended_none z fits = let e : Stood table term (λ fits. walk_from fits table 0 (root_part (part_from term 0))) s stands.NoRule = rw z at t.0.1 in e fits
 
-  pub ended_damaged : (s.stands ≡ 1 → ⊥) → (s.stands ≡ 2 → ⊥) → (fits : LeafNode → Bool) → walk_from fits table 0 (root_part (part_from term 0)) ≡ DamagedAt s.at
+  pub ended_damaged : (s.stands ≡ stands.NoRule → ⊥) → (s.stands ≡ stands.Rule → ⊥) → (fits : LeafNode → Bool) → walk_from fits table 0 (root_part (part_from term 0)) ≡ DamagedAt s.at
   unfolding WalkTold Standing
   ended_damaged a b fits = go s.stands t.1 a b t.0.1
     where
-      go : (n : ℕ) → (n ≡ 0 → ⊥) → (n ≡ 1 → ⊥) → (n ≡ 2 → ⊥) → Stood table term (λ fits. walk_from fits table 0 (root_part (part_from term 0))) s n → walk_from fits table 0 (root_part (part_from term 0)) ≡ DamagedAt s.at
-      go zero x y z e = absurd (x refl)
-      go (suc zero) x y z e = absurd (y refl)
-      go (suc (suc zero)) x y z e = absurd (z refl)
-      go (suc (suc (suc n))) x y z e = e fits
+      go : (n : Stands) → (n ≡ stands.Going → ⊥) → (n ≡ stands.NoRule → ⊥) → (n ≡ stands.Rule → ⊥) → Stood table term (λ fits. walk_from fits table 0 (root_part (part_from term 0))) s n → walk_from fits table 0 (root_part (part_from term 0)) ≡ DamagedAt s.at
+      go stands.Going x y z e = absurd (x refl)
+      go stands.NoRule x y z e = absurd (y refl)
+      go stands.Rule x y z e = absurd (z refl)
+      go stands.Damaged x y z e = e fits
 
-  module _ (z : s.stands ≡ 2) where
+  module _ (z : s.stands ≡ stands.Rule) where
     pub ended_leaf : LeafFound table term (λ fits. walk_from fits table 0 (root_part (part_from term 0))) s
     unfolding WalkTold Standing
     ended_leaf = go s.stands z t.0.1
       where
-        go : (n : ℕ) → n ≡ 2 → Stood table term (λ fits. walk_from fits table 0 (root_part (part_from term 0))) s n → LeafFound table term (λ fits. walk_from fits table 0 (root_part (part_from term 0))) s
-        go zero z e = absurd (omega arith)
-        go (suc zero) z e = absurd (omega arith)
-        go (suc (suc zero)) z e = e
-        go (suc (suc (suc n))) z e = absurd (omega arith)
+        go : (n : Stands) → n ≡ stands.Rule → Stood table term (λ fits. walk_from fits table 0 (root_part (part_from term 0))) s n → LeafFound table term (λ fits. walk_from fits table 0 (root_part (part_from term 0))) s
+        go n z e = rw z at e
 
     pub ended_sound : LeafSound table term s
     ended_sound = ended_leaf.leaf
@@ -104,19 +98,19 @@ module _ (table term : List ℕ) (s : Walk) (t : WalkTold table term s) where
     after_walk a f = (f.0, f.1, f.2, f.3 ∙ ended_visits)
 
     module _ (b : bodies ≡ replicate room 0) (l : lengths ≡ replicate 16 0) where
-      pub match_none : s.stands ≡ 1 → FindsNone answer.NoFit s.visits r → Gives
+      pub match_none : s.stands ≡ stands.NoRule → FindsNone answer.NoFit s.visits r → Gives
       unfolding walked_gives
       match_none z f = rw (ended_none z asked) (refuses room bodies lengths r b l answer.NoFit (visits_here table term) (after_walk answer.NoFit f))
 
-      pub match_damaged : (s.stands ≡ 1 → ⊥) → (s.stands ≡ 2 → ⊥) → FindsNone (answer.Damaged s.at) s.visits r → Gives
+      pub match_damaged : (s.stands ≡ stands.NoRule → ⊥) → (s.stands ≡ stands.Rule → ⊥) → FindsNone (answer.Damaged s.at) s.visits r → Gives
       unfolding walked_gives
       match_damaged y z f = rw (ended_damaged y z asked) (refuses room bodies lengths r b l (answer.Damaged s.at) (visits_here table term) (after_walk (answer.Damaged s.at) f))
 
-      pub match_over : s.stands ≡ 2 → Parted term → 0 < length term → (a : ℕ) → a ≡ count_of (get_or term 0 0) → a < get_or table (s.at + 3) 0 → FindsNone (answer.Damaged s.at) s.visits r → Gives
+      pub match_over : s.stands ≡ stands.Rule → Parted term → 0 < length term → (a : ℕ) → a ≡ count_of (get_or term 0 0) → a < get_or table (s.at + 3) 0 → FindsNone (answer.Damaged s.at) s.visits r → Gives
       unfolding walked_gives
       match_over z p n a c k f = rw (ended_over z p n a c k) (refuses room bodies lengths r b l (answer.Damaged s.at) (visits_here table term) (after_walk (answer.Damaged s.at) f))
 
-    module _ (z : s.stands ≡ 2) (parted : Parted term) (some_words : 0 < length term) (a : ℕ) (arguments : a ≡ count_of (get_or term 0 0)) (within : get_or table (s.at + 3) 0 ≤ a) (fits : Bool)
+    module _ (z : s.stands ≡ stands.Rule) (parted : Parted term) (some_words : 0 < length term) (a : ℕ) (arguments : a ≡ count_of (get_or term 0 0)) (within : get_or table (s.at + 3) 0 ≤ a) (fits : Bool)
         (w : LeafWritten table term s room bodies lengths fits) where
       pub match_short : fits ≡ false → FindsNone answer.Short s.visits r → Gives
       unfolding walked_gives LeafWritten
@@ -143,7 +137,7 @@ some_words : (t : Row) → width t ≡ 1 → 0 < length (words t)
 some_words t e = let o = one_tree t e in rw (o.2, words_node o.0 o.1 nothing) (omega arith)
 
 module _ (table ws : List ℕ) (room : ℕ) where
-  module _ (good : check term_limits ws ≡ Good) where
+  module _ (good : check term_limits ws ≡ Ok tt) where
     is_term : IsTerm ws
     is_term = good_tree term_limits (omega arith) ws good
 
@@ -169,11 +163,11 @@ module _ (table ws : List ℕ) (room : ℕ) where
     match_walked l o w = rw (good, walk_here l, visits_here_lem l) w
 
   module _ (bodies lengths : List ℕ) (r : TreeMatch) (b : bodies ≡ replicate room 0) (l : lengths ≡ replicate 16 0) where
-    pub match_bad_term : (at : ℕ) → check term_limits ws ≡ Bad at → FindsNone (answer.BadTerm at) 0 r → match_tree_came (answered r.answer) r.rule r.aside r.visits bodies lengths ≡ match_tree_gives table ws room
+    pub match_bad_term : (at : ℕ) → check term_limits ws ≡ Err at → FindsNone (answer.BadTerm at) 0 r → match_tree_came (answered r.answer) r.rule r.aside r.visits bodies lengths ≡ match_tree_gives table ws room
     unfolding match_tree match_tree_rule match_tree_visits match_tree_gives
     match_bad_term at e f = rw e (refuses room bodies lengths r b l (answer.BadTerm at) 0 f)
 
-    pub match_long : check term_limits ws ≡ Good → 16384 < length table → FindsNone (answer.Damaged 16384) 0 r
+    pub match_long : check term_limits ws ≡ Ok tt → 16384 < length table → FindsNone (answer.Damaged 16384) 0 r
         → match_tree_came (answered r.answer) r.rule r.aside r.visits bodies lengths ≡ match_tree_gives table ws room
     unfolding match_tree match_tree_rule match_tree_visits match_tree_gives walk
     match_long e k f = rw (e, visits_long table (tree_of ws) k, lt-leb (length table) 16384 k) (refuses room bodies lengths r b l (answer.Damaged 16384) 0 f)

@@ -9,10 +9,12 @@ use native.Mathlib.Omega.{arith}
 use lib.Dec.{eqb}
 use lib.ListN.{length, get_or, take, drop, length-drop}
 use lib.Seq.{length-take-le}
-use borrow.Author.Tests.{eq-eqb, ne_eqb}
+use borrow.Author.Tests.{eq-eqb, eqb-true, ne_eqb}
 use Rattle.term.proofs.Laws.{never}
 use Rattle.book.specs.declared.book.Sides.{Sides}
-use Rattle.book.specs.declared.book.Found.TheVariants as found
+use Rattle.std.specs.Prelude as std
+use Rattle.std.specs.Prelude.{Some, None}
+use Rattle.std.specs.Option.{SomeIff, option_eq}
 use Rattle.book.specs.Rule.{counted}
 use Rattle.book.specs.Told.Found.{sides_at}
 use Rattle.book.proofs.Laws.{sides_rule, sides_none}
@@ -43,6 +45,15 @@ pub counts_end : (left : List ℕ) (x n : ℕ) (ws : List ℕ) → n ≡ 0 → t
 unfolding variables_in counts_fit
 counts_end left x zero ws z = sym (ap (counts_fit left x) counts_none)
 counts_end left x (suc n) ws z = absurd (omega arith)
+
+-- a count is one more than what it counts
+pub same_count : (r : std.Option ℕ) (c k : ℕ) → SomeIff r (1 ≤ c) (c - 1) → option_eq eqb r (Some k) ≡ true → c ≡ suc k
+same_count None c k s e = never (cc)
+same_count (Some x) c k s e = let z = eqb-true x k e in omega (arith, s.0, s.1, z)
+
+pub other_count : (r : std.Option ℕ) (c k : ℕ) → SomeIff r (1 ≤ c) (c - 1) → option_eq eqb r (Some k) ≡ false → c ≡ suc k → ⊥
+other_count None c k s e z = s (omega arith)
+other_count (Some x) c k s e z = let q : x ≡ k = omega (arith, s.1, z) in let w = eq-eqb x k q in never (cc)
 
 module _ (left table : List ℕ) (at x n : ℕ) (some_left : x < n) where
   abbrev more : ℕ
@@ -105,7 +116,7 @@ module _ (book : List ℕ) (a : ℕ) (table : List ℕ) (at : ℕ) where
   abbrev read : Option (List LeafVariable)
   read = variables_in vars (drop (at + 4) table)
 
-  pub fits_absent : sides_at book rule ≡ found.None → false ≡ leaf_fits book a table at
+  pub fits_absent : sides_at book rule ≡ None → false ≡ leaf_fits book a table at
   unfolding leaf_fits book_fits
   fits_absent e = go read
     where
@@ -113,7 +124,7 @@ module _ (book : List ℕ) (a : ℕ) (table : List ℕ) (at : ℕ) where
       go none = refl
       go (some vs) = rw (sides_none book rule e)
 
-  module _ (s : Sides) (e : sides_at book rule ≡ found.Rule s) where
+  module _ (s : Sides) (e : sides_at book rule ≡ Some s) where
     pub fits_sides : (s.left ≤ s.right) × (s.right ≤ length book)
     fits_sides = let q = (sides_rule book rule s e).2 in (q.left_first, omega (arith, q.right_next, q.within))
 

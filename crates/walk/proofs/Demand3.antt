@@ -9,7 +9,7 @@ use native.Mathlib.Decide.{dec_le}
 use lib.Dec.{leb}
 use lib.ListN.{length, get_or}
 use borrow.Author.Tests.{le-leb}
-use Rattle.term.specs.declared.check.Checked.TheVariants.{Good}
+use Rattle.std.specs.Prelude.{Ok}
 use Rattle.term.specs.declared.answer.Answer.TheVariants.{Done, NoFit, Short}
 use Rattle.term.specs.Answer.{Answered, answered}
 use Rattle.term.specs.Word.{pick}
@@ -43,7 +43,7 @@ module _ (s : Answered) where
   done_short : s ≡ answered Done → s ≡ answered Short → ⊥
   done_short p q = let z : ◌≡◌ {A = ℕ} 0 13 = ap (λ (a : Answered). a.number) (sym p ∙ q) in omega arith
 
-module _ (book : List ℕ) (accepted : check_book book ≡ Good) (ws : List ℕ) (term : IsTerm ws) where
+module _ (book : List ℕ) (accepted : check_book book ≡ Ok tt) (ws : List ℕ) (term : IsTerm ws) where
   one_fit : (rule : Rule) (number : ℕ) → rule_at book number ≡ some rule → (b c : ℕ → Row) → FitsFront rule.vars (left_in rule) (tree_of ws) b
       → FitsFront rule.vars (left_in rule) (tree_of ws) c → (x : ℕ) → x < rule.vars → b x ≡ c x
   one_fit rule number e b c f g =
@@ -65,7 +65,7 @@ module _ (book : List ℕ) (accepted : check_book book ≡ Good) (ws : List ℕ)
   )
 
 -- ---- over words that begin with the tree of an accepted book and are within a tree's words
-module _ (book : List ℕ) (accepted : check_book book ≡ Good) (tree : List ℕ) (lies : Lies tree 0 (book_tree book)) (short : length tree ≤ 16384) (ws : List ℕ) (good : check term_limits ws ≡ Good) where
+module _ (book : List ℕ) (accepted : check_book book ≡ Ok tt) (tree : List ℕ) (lies : Lies tree 0 (book_tree book)) (short : length tree ≤ 16384) (ws : List ℕ) (good : check term_limits ws ≡ Ok tt) where
   abbrev term : IsTerm ws
   term = good_tree term_limits (omega arith) ws good
 

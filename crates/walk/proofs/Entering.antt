@@ -20,6 +20,7 @@ use Rattle.fit.proofs.Laws.{children_node}
 use Rattle.tree.specs.Find.{PartAt, part_of, marked_part, child_parts, inside_of, enter_part, total}
 use Rattle.tree.proofs.Laws.{child_parts_none, child_parts_more, inside_of_lem, enter_is, length_total, total_entered}
 use Rattle.walk.specs.declared.state.Walk.{Walk}
+use Rattle.walk.specs.declared.state.Stands as state
 use Rattle.walk.specs.Told.State.{part_from, place_in, places_from, places_of, Parted, Holds, EnterTold}
 use Rattle.walk.proofs.Uncovered.{length_places, places_agree, places_more, entered_part, places_marked, length_children, one_tree, from_stands, place_depth, place_entered, place_part, place_stands, place_tree}
 
@@ -347,9 +348,9 @@ module _ (term : List ℕ) (s : Walk) (p : Parted term) (h : Holds term s) (n : 
         sym (append-nil (places_from (place_in term offsets depths entered) 0 count))
         ∙ ap (λ (l : List PartAt). places_from (place_in term offsets depths entered) 0 count ++ l) (sym none_left) ∙ e.told
 
-    pub entering_told : (at stands visits : ℕ) → stands ≡ s.stands → visits ≡ s.visits
-        → EnterTold term s n at (record { offsets = offsets; depths = depths; entered = entered; count = count; at = at; stands = stands; visits = visits })
-    entering_told at stands visits same visited =
+    pub entering_told : (at : ℕ) (how : state.Stands) (visits : ℕ) → how ≡ s.stands → visits ≡ s.visits
+        → EnterTold term s n at (record { offsets = offsets; depths = depths; entered = entered; count = count; at = at; stands = how; visits = visits })
+    entering_told at how visits same visited =
         let l = ap length entering_places in
         record {
           holds =

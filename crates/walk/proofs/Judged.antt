@@ -1,6 +1,6 @@
 -- What Switch, Closed and Same say of a state: one law for each way through the code.
-use mathlib.Core.Path.{◌≡◌, refl, ap, ◌∙◌}
-use mathlib.Core.Bool.{Bool, true, false, ◌&&◌}
+use mathlib.Core.Path.{◌≡◌, refl, sym, ap, ◌∙◌}
+use mathlib.Core.Bool.{Bool, true, false, not, ◌&&◌}
 use mathlib.Core.List.{List, [], ◌∷◌}
 use mathlib.Core.Option.{Option, some}
 use Prim.Native.Nat.{ℕ, suc, ◌+◌, ◌*◌, ◌-◌, ◌≤◌, ◌<◌}
@@ -9,18 +9,20 @@ use lib.Dec.{leb, ltb}
 use lib.ListN.{length, get_or, take, drop, length-drop}
 use lib.Seq.{drop-cons, get_or-drop}
 use borrow.Author.Tests.{lt-ltb, le-ltb}
+use Rattle.std.specs.Prelude.{Some, None}
+use Rattle.std.specs.Prelude as std
+use Rattle.std.specs.Bool.{then_some}
 use Rattle.term.specs.Word.{pick}
 use Rattle.term.specs.Renumber.{good_list}
 use Rattle.term.specs.Part.{is_some, has_body, same_o, same_body}
 use Rattle.tree.specs.Find.{PartAt, part_of, body_for}
 use Rattle.walk.specs.Walk.{DamagedAt, Next, Ends, unless, go_to, is_word, case_of, case_next, switch_node, closed_node, same_node}
 use Rattle.walk.specs.declared.state.Walk.{Walk}
-use Rattle.walk.specs.declared.taken.Taken.{Taken}
-use Rattle.walk.specs.declared.taken.Taken.TheVariants.{To, Not}
+use Rattle.walk.specs.declared.state.Stands.TheVariants as stands
 use Rattle.walk.specs.Told.Taken.{address_of, CaseTold, closed_taken, same_taken}
 use Rattle.walk.specs.declared.decide.Decision.{Decision}
 use Rattle.walk.specs.declared.decide.Decision.TheVariants.{Enter, Stop}
-use Rattle.walk.specs.Told.State.{places_of, Parted, Holds, Decided, GoTold, CaseTaken, SwitchDecided, ClosedDecided, SameDecided}
+use Rattle.walk.specs.Told.State.{places_of, Parted, Holds, Decided, GoTold, CaseTaken, SwitchDecided, ClosedDecided, SameDecided, or_damaged}
 use Rattle.walk.proofs.Tells.{decided_same, decided_damaged}
 use Rattle.walk.proofs.Uncovered.{held_length, place_depth, place_entered, place_body, has_body_lem, same_body_is}
 use Rattle.walk.proofs.Entering.{opened}
@@ -38,9 +40,9 @@ three_words table at h =
     two_words table at (omega arith) ∙ ap (λ (l : List ℕ). get_or table (at + 1) 0 ∷ get_or table (at + 2) 0 ∷ l) (drop-cons table (at + 3) 0 (omega arith) ∙ rw y)
 
 -- ---- an address that is taken, or none
-abbrev taken_next : List ℕ → ℕ → List PartAt → Taken → Next
-taken_next table at ps (To to) = go_to table at to ps
-taken_next table at ps Not = Ends (DamagedAt at)
+abbrev taken_next : List ℕ → ℕ → List PartAt → std.Option ℕ → Next
+taken_next table at ps (Some to) = go_to table at to ps
+taken_next table at ps None = Ends (DamagedAt at)
 
 module _ (table : List ℕ) (at : ℕ) (ps : List PartAt) where
   closed_short : (ws : List ℕ) → length ws < 2 → closed_node table at ps ws ≡ Ends (DamagedAt at)
@@ -60,7 +62,7 @@ module _ (table : List ℕ) (at : ℕ) (ps : List PartAt) where
     where
       go : (x y z : Bool) → good_list d (take k ws) ≡ z
           → unless x at (unless y at (unless z at (go_to table at (pick (is_some (body_for ps n (take k ws))) (get_or ws k 0) (get_or ws (k + 1) 0)) ps)))
-          ≡ taken_next table at ps (pick x (pick y (pick z (To (pick (has_body d (take k ws) part) (get_or ws k 0) (get_or ws (k + 1) 0))) Not) Not) Not)
+          ≡ taken_next table at ps (pick x (pick y (pick z (Some (pick (has_body d (take k ws) part) (get_or ws k 0) (get_or ws (k + 1) 0))) None) None) None)
       go false y z q = refl
       go true false z q = refl
       go true true false q = refl
@@ -91,7 +93,7 @@ module _ (table : List ℕ) (at : ℕ) (ps : List PartAt) where
       go : (x y z w : Bool) → good_list d (take k ws) ≡ z → good_list c (take k (drop k ws)) ≡ w
           → unless x at (unless y at (unless z at (unless w at
           (go_to table at (pick (same_o (body_for ps n (take k ws)) (body_for ps m (take k (drop k ws)))) (get_or ws (k + k) 0) (get_or ws (k + k + 1) 0)) ps))))
-          ≡ taken_next table at ps (pick x (pick y (pick z (pick w (To (pick (same_body d (take k ws) part c (take k (drop k ws)) other) (get_or ws (k + k) 0) (get_or ws (k + k + 1) 0))) Not) Not) Not) Not)
+          ≡ taken_next table at ps (pick x (pick y (pick z (pick w (Some (pick (same_body d (take k ws) part c (take k (drop k ws)) other) (get_or ws (k + k) 0) (get_or ws (k + k + 1) 0))) None) None) None) None)
       go false y z w q u = refl
       go true false z w q u = refl
       go true true false w q u = refl
@@ -125,26 +127,26 @@ module _ (table term : List ℕ) (s : Walk) (p : Parted term) (h : Holds term s)
   abbrev place : ℕ
   place = get_or table (s.at + 1) 0
 
-  damaged : (next : Next) → next ≡ Ends (DamagedAt s.at) → Decided table term (λ fits. next) s (Stop 3)
+  damaged : (next : Next) → next ≡ Ends (DamagedAt s.at) → Decided table term (λ fits. next) s (Stop stands.Damaged)
   damaged next e = decided_damaged table term (λ fits. next) s (λ fits. e)
 
   -- Closed
   module _ (inside : s.at < length table) where
-    pub closed_cut : length table - s.at < 3 → ClosedDecided table term s (Stop 3)
+    pub closed_cut : length table - s.at < 3 → ClosedDecided table term s (Stop stands.Damaged)
     closed_cut l = damaged _ (closed_short table s.at held (drop (s.at + 1) table) (rw (length-drop (s.at + 1) table) (omega arith)))
 
-    pub same_cut : length table - s.at < 4 → SameDecided table term s (Stop 3)
+    pub same_cut : length table - s.at < 4 → SameDecided table term s (Stop stands.Damaged)
     same_cut l = damaged _ (same_short table s.at held (drop (s.at + 1) table) (rw (length-drop (s.at + 1) table) (omega arith)))
 
-    pub switch_cut : length table - s.at < 3 → SwitchDecided table term s (Stop 3)
+    pub switch_cut : length table - s.at < 3 → SwitchDecided table term s (Stop stands.Damaged)
     switch_cut l = damaged _ (switch_short table s.at held (drop (s.at + 1) table) (rw (length-drop (s.at + 1) table) (omega arith)))
 
   module _ (long : s.at + 3 ≤ length table) where
-    pub closed_uncovered : s.count ≤ place → ClosedDecided table term s (Stop 3)
+    pub closed_uncovered : s.count ≤ place → ClosedDecided table term s (Stop stands.Damaged)
     closed_uncovered l =
         damaged _ (rw (two_words table s.at long) (closed_nowhere table s.at held place (get_or table (s.at + 2) 0) (drop (s.at + 3) table) (omega (arith, held_length term s p h))))
 
-    pub switch_uncovered : s.count ≤ place → SwitchDecided table term s (Stop 3)
+    pub switch_uncovered : s.count ≤ place → SwitchDecided table term s (Stop stands.Damaged)
     switch_uncovered l =
         damaged _ (rw (two_words table s.at long) (switch_nowhere table s.at held place (get_or table (s.at + 2) 0) (drop (s.at + 3) table) (omega (arith, held_length term s p h))))
 
@@ -153,27 +155,27 @@ module _ (table term : List ℕ) (s : Walk) (p : Parted term) (h : Holds term s)
       here = omega (arith, held_length term s p h)
 
       -- the words of the part are lent, and the address is what was taken for them
-      module _ (part : List ℕ) (l : part ≡ drop (get_or s.offsets place 0) term) (t : Taken) (e : t ≡ closed_taken (get_or s.depths place 0) part (get_or table (s.at + 2) 0) (drop (s.at + 3) table)) where
+      module _ (part : List ℕ) (l : part ≡ drop (get_or s.offsets place 0) term) (t : std.Option ℕ) (e : t ≡ closed_taken (get_or s.depths place 0) part (get_or table (s.at + 2) 0) (drop (s.at + 3) table)) where
         closed_next : closed_node table s.at held (drop (s.at + 1) table) ≡ taken_next table s.at held t
         closed_next =
             rw (two_words table s.at long, e, l)
             (closed_is table s.at held place (get_or table (s.at + 2) 0) (drop (s.at + 3) table) (get_or s.depths place 0) (drop (get_or s.offsets place 0) term) here (place_depth term s p h place i)
             (λ ys g. ap is_some (place_body term s p h place i ys g) ∙ has_body_lem (get_or s.depths place 0) ys (drop (get_or s.offsets place 0) term)))
 
-        pub closed_goes : (to : ℕ) → t ≡ To to → (d : Decision) → GoTold table s.at to d → ClosedDecided table term s d
+        pub closed_goes : (to : ℕ) → t ≡ Some to → (d : Decision) → GoTold table s.at to d → ClosedDecided table term s d
         closed_goes to q d g = decided_same table term _ (λ fits. go_to table s.at to held) s d (λ fits. closed_next ∙ ap (taken_next table s.at held) q) (g term s refl)
 
-        pub closed_damaged : t ≡ Not → ClosedDecided table term s (Stop 3)
+        pub closed_damaged : t ≡ None → ClosedDecided table term s (Stop stands.Damaged)
         closed_damaged q = damaged _ (closed_next ∙ ap (taken_next table s.at held) q)
 
       -- Switch
-      pub switch_past : length table - (s.at + 3) ≤ 2 * get_or table (s.at + 2) 0 → SwitchDecided table term s (Stop 3)
+      pub switch_past : length table - (s.at + 3) ≤ 2 * get_or table (s.at + 2) 0 → SwitchDecided table term s (Stop stands.Damaged)
       switch_past l =
           damaged _
           (rw (two_words table s.at long)
           (switch_over table s.at held place (get_or table (s.at + 2) 0) (drop (s.at + 3) table) here (rw (length-drop (s.at + 3) table) l)))
 
-      module _ (fits : 2 * get_or table (s.at + 2) 0 < length table - (s.at + 3)) (t : Taken)
+      module _ (fits : 2 * get_or table (s.at + 2) 0 < length table - (s.at + 3)) (t : std.Option ℕ)
           (c : CaseTold (get_or term (get_or s.offsets place 0) 0) (get_or table (s.at + 2) 0) (drop (s.at + 3) table) t) where
         switch_next : switch_node table s.at held (drop (s.at + 1) table) ≡ case_next table s.at place held (get_or (drop (s.at + 3) table) (2 * get_or table (s.at + 2) 0) 0) (address_of t)
         unfolding is_word
@@ -183,12 +185,12 @@ module _ (table term : List ℕ) (s : Walk) (p : Parted term) (h : Holds term s)
             (switch_is table s.at held place (get_or table (s.at + 2) 0) (drop (s.at + 3) table) (address_of t) here (rw (length-drop (s.at + 3) table) fits)
             (c (part_of place held).part (λ v. rw (q.is, q.first))))
 
-        pub switch_goes : t ≡ Not → (d : Decision) → GoTold table s.at (get_or table (s.at + 3 + 2 * get_or table (s.at + 2) 0) 0) d → SwitchDecided table term s d
+        pub switch_goes : t ≡ None → (d : Decision) → GoTold table s.at (get_or table (s.at + 3 + 2 * get_or table (s.at + 2) 0) 0) d → SwitchDecided table term s d
         switch_goes q d g =
             decided_same table term _ (λ fits. go_to table s.at (get_or table (s.at + 3 + 2 * get_or table (s.at + 2) 0) 0) held) s d
             (λ fits. switch_next ∙ rw (q, get_or-drop (s.at + 3) table (2 * get_or table (s.at + 2) 0) 0)) (g term s refl)
 
-        pub switch_takes : (to : ℕ) → t ≡ To to → (d : Decision) → CaseTaken table s.at place (get_or s.entered place false) to d → SwitchDecided table term s d
+        pub switch_takes : (to : ℕ) → t ≡ Some to → (d : Decision) → CaseTaken table s.at place (get_or s.entered place false) to d → SwitchDecided table term s d
         switch_takes to q d g = decided_same table term _ (λ fits. case_next table s.at place held 0 (some to)) s d (λ fits. switch_next ∙ rw q) (g term s p h refl i refl)
 
   -- Same
@@ -196,19 +198,19 @@ module _ (table term : List ℕ) (s : Walk) (p : Parted term) (h : Holds term s)
     abbrev other : ℕ
     other = get_or table (s.at + 2) 0
 
-    pub same_uncovered : s.count ≤ place → SameDecided table term s (Stop 3)
+    pub same_uncovered : s.count ≤ place → SameDecided table term s (Stop stands.Damaged)
     same_uncovered l =
         damaged _ (rw (three_words table s.at long) (same_nowhere table s.at held place other (get_or table (s.at + 3) 0) (drop (s.at + 4) table) (omega (arith, held_length term s p h))))
 
     module _ (i : place < s.count) where
-      pub same_next_uncovered : s.count ≤ other → SameDecided table term s (Stop 3)
+      pub same_next_uncovered : s.count ≤ other → SameDecided table term s (Stop stands.Damaged)
       same_next_uncovered l =
           damaged _
           (rw (three_words table s.at long)
           (same_next_nowhere table s.at held place other (get_or table (s.at + 3) 0) (drop (s.at + 4) table) (omega (arith, held_length term s p h)) (omega (arith, held_length term s p h))))
 
       -- the words of the parts are lent, and the address is what was taken for them
-      module _ (j : other < s.count) (part part-2 : List ℕ) (l : part ≡ drop (get_or s.offsets place 0) term) (m : part-2 ≡ drop (get_or s.offsets other 0) term) (t : Taken)
+      module _ (j : other < s.count) (part part-2 : List ℕ) (l : part ≡ drop (get_or s.offsets place 0) term) (m : part-2 ≡ drop (get_or s.offsets other 0) term) (t : std.Option ℕ)
           (e : t ≡ same_taken (get_or s.depths place 0) part (get_or s.depths other 0) part-2 (get_or table (s.at + 3) 0) (drop (s.at + 4) table)) where
         same_next : same_node table s.at held (drop (s.at + 1) table) ≡ taken_next table s.at held t
         same_next =
@@ -219,10 +221,10 @@ module _ (table term : List ℕ) (s : Walk) (p : Parted term) (h : Holds term s)
             rw (place_body term s p h place i ys g, place_body term s p h other j zs k)
             (same_body_is (get_or s.depths place 0) ys (drop (get_or s.offsets place 0) term) (get_or s.depths other 0) zs (drop (get_or s.offsets other 0) term))))
 
-        pub same_goes : (to : ℕ) → t ≡ To to → (d : Decision) → GoTold table s.at to d → SameDecided table term s d
+        pub same_goes : (to : ℕ) → t ≡ Some to → (d : Decision) → GoTold table s.at to d → SameDecided table term s d
         same_goes to q d g = decided_same table term _ (λ fits. go_to table s.at to held) s d (λ fits. same_next ∙ ap (taken_next table s.at held) q) (g term s refl)
 
-        pub same_damaged : t ≡ Not → SameDecided table term s (Stop 3)
+        pub same_damaged : t ≡ None → SameDecided table term s (Stop stands.Damaged)
         same_damaged q = damaged _ (same_next ∙ ap (taken_next table s.at held) q)
 
   -- a case
@@ -230,14 +232,20 @@ module _ (table term : List ℕ) (s : Walk) (p : Parted term) (h : Holds term s)
     abbrev CaseDecided : Decision → Type 0
     CaseDecided d = Decided table term (λ fits. case_next table s.at n held 0 (some to)) s d
 
-    pub case_entered : get_or s.entered n false ≡ true → CaseDecided (Stop 3)
+    case_entered : get_or s.entered n false ≡ true → CaseDecided (Stop stands.Damaged)
     case_entered o = damaged _ (rw (place_entered term s p h n i, o))
 
     module _ (o : get_or s.entered n false ≡ false) where
-      pub case_out : (ltb s.at to && ltb to (length table)) ≡ false → CaseDecided (Stop 3)
+      case_out : (ltb s.at to && ltb to (length table)) ≡ false → CaseDecided (Stop stands.Damaged)
       unfolding go_to
       case_out l = damaged _ (rw (place_entered term s p h n i, o, l))
 
-      pub case_in : (ltb s.at to && ltb to (length table)) ≡ true → CaseDecided (Enter n to)
+      case_in : (ltb s.at to && ltb to (length table)) ≡ true → CaseDecided (Enter n to)
       unfolding go_to Decided
       case_in l = (i, o, λ fits. rw (place_entered term s p h n i, o, l))
+
+    -- whether it was entered before, and whether the address leads on
+    pub case_told : (entered b : Bool) → get_or s.entered n false ≡ entered → b ≡ (not entered && (ltb s.at to && ltb to (length table))) → CaseDecided (or_damaged (then_some b (Enter n to)))
+    case_told true b o e = rw e (case_entered o)
+    case_told false true o e = case_in o (sym e)
+    case_told false false o e = case_out o (sym e)

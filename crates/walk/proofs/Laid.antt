@@ -9,7 +9,7 @@ use native.Mathlib.Omega.{arith}
 use lib.Dec.{eqb}
 use lib.ListN.{length, get_or}
 use borrow.Author.Tests.{le-leb, eq-eqb}
-use Rattle.term.specs.declared.check.Checked.TheVariants.{Good}
+use Rattle.std.specs.Prelude.{Ok}
 use Rattle.term.specs.Word.{pick}
 use Rattle.term.specs.Row.{Row, width, Formed}
 use Rattle.term.specs.Part.{is_some, same_o}
@@ -125,14 +125,14 @@ unfolding counts_fit
 counts_fit_lem left x [] c = refl
 counts_fit_lem left x (k ∷ ks) c = and_both (eqb (counted x left) (suc k)) (counts_fit left (suc x) ks) (eq-eqb (counted x left) (suc k) c.0) (counts_fit_lem left (suc x) ks c.1)
 
-book_given : (book : List ℕ) → check_book book ≡ Good → (a : ℕ) → FitsBook book a (book_fits book a)
+book_given : (book : List ℕ) → check_book book ≡ Ok tt → (a : ℕ) → FitsBook book a (book_fits book a)
 unfolding book_fits
 book_given book accepted a leaf rule e n c s =
     let l : leaf.aside + left_count rule.left ≡ a = rw (left_counts book accepted leaf.rule rule e) s in
     rw (e, eq-eqb (length leaf.variables) rule.vars n, eq-eqb (leaf.aside + left_count rule.left) a l) (counts_fit_lem rule.left 0 (counts_of leaf.variables) c)
 
 -- ---- a table that begins with an accepted book's tree, whatever follows it
-module _ (book : List ℕ) (accepted : check_book book ≡ Good) (t : Row) (formed : Formed t) (one : width t ≡ 1) where
+module _ (book : List ℕ) (accepted : check_book book ≡ Ok tt) (t : Row) (formed : Formed t) (one : width t ≡ 1) where
   begun : (fits : ℕ → LeafNode → Bool) → FitsBook book (root_count t) (fits (root_count t)) → (table : List ℕ) → length table ≤ 16384 → Lies table 0 (book_tree book)
       → walk fits table t ≡ walked_of (vars_in book) (lowest_front book 0 (get_or book 0 0) t)
   unfolding walk

@@ -9,10 +9,10 @@ use lib.Dec.{ltb}
 use lib.ListN.{length, get_or, take, drop, set, replicate, length-drop, length-append, length-replicate, replicate-append-replicate}
 use lib.Seq.{drop-append_seam, length-take-le}
 use borrow.Author.Tests.{ltb-true, ltb-false, lt-ltb, le-ltb, le-leb, lt-leb}
-use Rattle.term.specs.declared.renumber.Passed.{Passed}
-use Rattle.term.specs.declared.renumber.Passed.TheVariants as step
-use Rattle.term.specs.declared.part.Written.{Written}
-use Rattle.term.specs.declared.part.Written.TheVariants.{Words}
+use Rattle.std.specs.Prelude.{Option as StdOption, Result, Ok, Err, Some, None}
+use Rattle.std.specs.Result.{result_ok}
+use Rattle.std.specs.Bool.{then_some}
+use Rattle.term.specs.declared.part.Unwritten.{Unwritten}
 use Rattle.term.specs.Row.{Row, words}
 use Rattle.term.specs.Part.{part_end, is_some, body_of, written, body_answer, body_words}
 use Rattle.term.proofs.Laws.{never, part_ends, body_of_lem, body_keeps, answer_fits, body_answer_lem, body_words_lem, padded_fits, written_fits}
@@ -23,8 +23,9 @@ use Rattle.tree.specs.Find.{PartAt, body_or, leaf_body, leaf_fitting}
 use Rattle.tree.proofs.Laws.{leaf_first, leaf_later}
 use Rattle.walk.specs.Walk.{DamagedAt, Next, Ends, unless, RuleFits, variables_in, sound_variables, leaf_read, leaf_with, leaf_node}
 use Rattle.walk.specs.declared.state.Walk.{Walk}
+use Rattle.walk.specs.declared.state.Stands.TheVariants as stands
 use Rattle.walk.specs.declared.decide.Decision.TheVariants.{Stop}
-use Rattle.walk.specs.Told.State.{places_of, Parted, Holds, sound_leaf, variables_or, leaf_in, LeafSound, LeafDecided, PartWritten, LeafWritten}
+use Rattle.walk.specs.Told.State.{places_of, Parted, Holds, sound_leaf, variables_or, leaf_in, LeafSound, LeafDecided, or_damaged, PartWritten, LeafWritten}
 use Rattle.walk.proofs.Tells.{decided_damaged, decided_rule}
 use Rattle.walk.proofs.Uncovered.{place_body}
 use Rattle.walk.proofs.Judged.{three_words}
@@ -68,10 +69,10 @@ module _ (table term : List ℕ) (s : Walk) where
   abbrev nexts : (LeafNode → Bool) → Next
   nexts fits = leaf_node fits s.at (places_of term s) (drop (s.at + 1) table)
 
-  leaf_ends : ((fits : LeafNode → Bool) → nexts fits ≡ Ends (DamagedAt s.at)) → LeafDecided table term s (Stop 3)
+  leaf_ends : ((fits : LeafNode → Bool) → nexts fits ≡ Ends (DamagedAt s.at)) → LeafDecided table term s (Stop stands.Damaged)
   leaf_ends e = decided_damaged table term nexts s e
 
-  pub leaf_node_cut : s.at < length table → length table - s.at < 4 → LeafDecided table term s (Stop 3)
+  pub leaf_node_cut : s.at < length table → length table - s.at < 4 → LeafDecided table term s (Stop stands.Damaged)
   leaf_node_cut i l = leaf_ends (λ fits. leaf_short fits s.at (places_of term s) (drop (s.at + 1) table) (rw (length-drop (s.at + 1) table) (omega arith)))
 
   module _ (long : s.at + 4 ≤ length table) where
@@ -87,21 +88,21 @@ module _ (table term : List ℕ) (s : Walk) where
     abbrev after : List ℕ
     after = drop (s.at + 4) table
 
-    pub leaf_rule_high : 64 ≤ get_or table (s.at + 1) 0 → LeafDecided table term s (Stop 3)
+    pub leaf_rule_high : 64 ≤ get_or table (s.at + 1) 0 → LeafDecided table term s (Stop stands.Damaged)
     leaf_rule_high l = leaf_ends (λ fits. rw (three_words table s.at long) (leaf_high fits s.at (places_of term s) rule number aside after l))
 
     module _ (low : get_or table (s.at + 1) 0 < 64) where
-      pub leaf_vars_many : 16 < get_or table (s.at + 2) 0 → LeafDecided table term s (Stop 3)
+      pub leaf_vars_many : 16 < get_or table (s.at + 2) 0 → LeafDecided table term s (Stop stands.Damaged)
       leaf_vars_many l = leaf_ends (λ fits. rw (three_words table s.at long) (leaf_many fits s.at (places_of term s) rule number aside after low l))
 
       module _ (few : get_or table (s.at + 2) 0 ≤ 16) where
         leaf_next_is : (fits : LeafNode → Bool) → nexts fits ≡ leaf_with fits s.at (places_of term s) number (leaf_read rule aside (variables_in number after))
         leaf_next_is fits = rw (three_words table s.at long) (leaf_is fits s.at (places_of term s) rule number aside after low few)
 
-        pub leaf_unsound : false ≡ sound_leaf (places_of term s) (variables_in (get_or table (s.at + 2) 0) (drop (s.at + 4) table)) → LeafDecided table term s (Stop 3)
+        leaf_unsound : false ≡ sound_leaf (places_of term s) (variables_in (get_or table (s.at + 2) 0) (drop (s.at + 4) table)) → LeafDecided table term s (Stop stands.Damaged)
         leaf_unsound u = leaf_ends (λ fits. leaf_next_is fits ∙ with_unsound fits s.at (places_of term s) rule number aside (variables_in number after) (sym u))
 
-        pub leaf_found : true ≡ sound_leaf (places_of term s) (variables_in (get_or table (s.at + 2) 0) (drop (s.at + 4) table)) → LeafDecided table term s (Stop 2)
+        leaf_found : true ≡ sound_leaf (places_of term s) (variables_in (get_or table (s.at + 2) 0) (drop (s.at + 4) table)) → LeafDecided table term s (Stop stands.Rule)
         leaf_found u =
             decided_rule table term nexts s
             (record {
@@ -109,8 +110,12 @@ module _ (table term : List ℕ) (s : Walk) where
               ends = λ fits. leaf_next_is fits ∙ with_sound fits s.at (places_of term s) rule number aside (variables_in number after) (sym u);
             })
 
+        pub leaf_told : (b : Bool) → b ≡ sound_leaf (places_of term s) (variables_in (get_or table (s.at + 2) 0) (drop (s.at + 4) table)) → LeafDecided table term s (or_damaged (then_some b (Stop stands.Rule)))
+        leaf_told true u = leaf_found u
+        leaf_told false u = leaf_unsound u
+
 -- ---- one body
-short_written : (room : ℕ) (ws : List ℕ) (r : Written) → r ≡ written room ws → ((n : ℕ) → r ≡ Words n → ⊥) → room < length ws
+short_written : (room : ℕ) (ws : List ℕ) (r : Result ℕ Unwritten) → r ≡ written room ws → ((n : ℕ) → r ≡ Ok n → ⊥) → room < length ws
 short_written room ws r e n = go (ltb room (length ws)) refl
   where
     go : (b : Bool) → ltb room (length ws) ≡ b → room < length ws
@@ -123,11 +128,11 @@ body_long d ys ws b e =
     omega (arith, (body_keeps d ys i.tree b i.body).long, ap length i.stands.same, length-append (words i.tree) i.after)
 
 module _ (d : ℕ) (ys ws out done : List ℕ) where
-  pub written_bounds : (n : ℕ) → PartWritten d ys ws out done (step.Done n) → (n ≤ length out) × (n ≤ length ws)
+  pub written_bounds : (n : ℕ) → PartWritten d ys ws out done (Some n) → (n ≤ length out) × (n ≤ length ws)
   unfolding PartWritten
   written_bounds n u = (u.3, u.4)
 
-  part_written : (n : ℕ) → Words n ≡ body_answer (length out) (body_of d ys ws) → done ≡ body_words (length out) (body_of d ys ws) → PartWritten d ys ws out done (step.Done n)
+  part_written : (n : ℕ) → Ok n ≡ body_answer (length out) (body_of d ys ws) → done ≡ body_words (length out) (body_of d ys ws) → PartWritten d ys ws out done (Some n)
   unfolding PartWritten
   part_written n e w = shown (answer_fits (length out) (body_of d ys ws) n (sym e))
     where
@@ -157,7 +162,7 @@ zeros_after out end l z =
     ∙ drop-append_seam (zeros end) (zeros (length out - end))
 
 module _ (d : ℕ) (ys ws out : List ℕ) (end : ℕ) (ends : end ≡ part_end ws) where
-  pub part_none : length out < end → (done : List ℕ) → PartWritten d ys ws out done step.Stuck
+  pub part_none : length out < end → (done : List ℕ) → PartWritten d ys ws out done None
   unfolding PartWritten
   part_none l done b i = omega (arith, ends, l, body_ends d ys ws b i)
 
@@ -168,18 +173,18 @@ module _ (d : ℕ) (ys ws out : List ℕ) (end : ℕ) (ends : end ≡ part_end w
     long : length lent ≡ end
     long = length-take-le end out l
 
-    pub part_lent_short : (r : Written) → r ≡ body_answer (length lent) (body_of d ys ws) → ((n : ℕ) → r ≡ Words n → ⊥) → (done : List ℕ) → PartWritten d ys ws out done step.Stuck
+    pub part_lent_short : (r : Result ℕ Unwritten) → r ≡ body_answer (length lent) (body_of d ys ws) → ((n : ℕ) → r ≡ Ok n → ⊥) → (done : List ℕ) → PartWritten d ys ws out done None
     unfolding PartWritten
     part_lent_short r e n done b i =
         let s = short_written (length lent) (words b) r (e ∙ ap (body_answer (length lent)) i ∙ body_answer_lem (length lent) b) n in
         absurd (omega (arith, s, long, ends, body_ends d ys ws b i))
 
-    pub part_lent : out ≡ replicate (length out) 0 → (front : List ℕ) (n : ℕ) → Words n ≡ body_answer (length lent) (body_of d ys ws) → front ≡ body_words (length lent) (body_of d ys ws)
-        → PartWritten d ys ws out (front ++ drop end out) (step.Done n)
+    pub part_lent : out ≡ replicate (length out) 0 → (front : List ℕ) (n : ℕ) → Ok n ≡ body_answer (length lent) (body_of d ys ws) → front ≡ body_words (length lent) (body_of d ys ws)
+        → PartWritten d ys ws out (front ++ drop end out) (Some n)
     unfolding PartWritten
     part_lent z front n e w = shown (part_written d ys ws lent front n e w)
       where
-        shown : PartWritten d ys ws lent front (step.Done n)
+        shown : PartWritten d ys ws lent front (Some n)
             → (b : Row) × (body_of d ys ws ≡ some b) × (n ≡ length (words b)) × (n ≤ length out) × (n ≤ length ws) × (front ++ drop end out ≡ words b ++ replicate (length out - n) 0)
         shown a = (
           a.0,
@@ -197,8 +202,13 @@ module _ (d : ℕ) (ys ws out : List ℕ) (end : ℕ) (ends : end ≡ part_end w
                 ∙ append_assoc (words b) (replicate (length lent - n) 0) (drop end out)
                 ∙ ap (λ (x : List ℕ). words b ++ x) (ap (λ (x : List ℕ). replicate (length lent - n) 0 ++ x) (zeros_after out end l z) ∙ replicate-append-replicate {A = ℕ} (length lent - n) (length out - end) 0 ∙ ap (λ (m : ℕ). replicate m 0) k)
 
+    pub part_said : out ≡ replicate (length out) 0 → (front : List ℕ) (r : Result ℕ Unwritten) → r ≡ body_answer (length lent) (body_of d ys ws) → front ≡ body_words (length lent) (body_of d ys ws)
+        → PartWritten d ys ws out (front ++ drop end out) (result_ok r)
+    part_said z front (Ok n) e w = part_lent z front n e w
+    part_said z front (Err u) e w = part_lent_short (Err u) e (λ n q. never (cc)) (front ++ drop end out)
+
 -- the lists and the words, as they are lent
-pub part_at : (d : ℕ) (ys zs ws vs out done : List ℕ) (r q : Passed) → ys ≡ zs → ws ≡ vs → r ≡ q → PartWritten d ys ws out done r → PartWritten d zs vs out done q
+pub part_at : (d : ℕ) (ys zs ws vs out done : List ℕ) (r q : StdOption ℕ) → ys ≡ zs → ws ≡ vs → r ≡ q → PartWritten d ys ws out done r → PartWritten d zs vs out done q
 part_at d ys zs ws vs out done r q e f g w = rw (e, f, g) at w
 
 -- ---- all bodies
@@ -277,7 +287,7 @@ module _ (table term : List ℕ) (s : Walk) (p : Parted term) (h : Holds term s)
           let k : length out ≡ room - to = ap length (o ∙ q) ∙ length-replicate {A = ℕ} (room - to) 0 in
           o ∙ q ∙ ap (λ (n : ℕ). replicate n 0) (sym k)
 
-      pub writing_short : (out done : List ℕ) → length out ≡ room - to → PartWritten depth list part out done step.Stuck
+      pub writing_short : (out done : List ℕ) → length out ≡ room - to → PartWritten depth list part out done None
           → (cleared zeros : List ℕ) → cleared ≡ replicate room 0 → zeros ≡ replicate 16 0 → LeafWritten table term s room cleared zeros false
       unfolding LeafWritten PartWritten
       writing_short out done o u cleared zeros c z =
@@ -287,7 +297,7 @@ module _ (table term : List ℕ) (s : Walk) (p : Parted term) (h : Holds term s)
           let q = many_short vars body room l.few bodies lengths to x w.many i (omega (arith, o, k, ap (λ (r : Row). length (words r)) e)) cleared zeros c z (leaf_in table s.at).aside in
           (q.0, q.1.0, q.1.1, q.1.2)
 
-      module _ (out done post : List ℕ) (n : ℕ) (o : length out ≡ room - to) (long : length done ≡ length out) (nothing-after : post ≡ []) (u : PartWritten depth list part out done (step.Done n)) where
+      module _ (out done post : List ℕ) (n : ℕ) (o : length out ≡ room - to) (long : length done ≡ length out) (nothing-after : post ≡ []) (u : PartWritten depth list part out done (Some n)) where
         pub written_few : n ≤ room - to
         unfolding PartWritten
         written_few = omega (arith, u.3, o)

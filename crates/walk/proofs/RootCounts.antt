@@ -6,7 +6,7 @@ use mathlib.Core.Option.{some}
 use Prim.Native.Nat.{ℕ, ◌-◌, ◌<◌}
 use native.Mathlib.Omega.{arith}
 use lib.ListN.{length, get_or}
-use Rattle.term.specs.declared.check.Checked.TheVariants.{Good}
+use Rattle.std.specs.Prelude.{Ok}
 use Rattle.term.specs.Word.{Head, symbol, abstraction, variable, pattern, count, word, count_of}
 use Rattle.term.specs.Row.{Row, nothing, node, words, width, Formed}
 use Rattle.term.proofs.Laws.{never, count_word_lem, words_node, formed_node}
@@ -50,7 +50,7 @@ symbol_counts abstraction kids e = never (let z = root_abstraction kids nothing 
 symbol_counts (variable i) kids e = never (let z = root_variable i kids nothing in cc)
 symbol_counts (pattern i c) kids e = never (let z = root_pattern i c kids nothing in cc)
 
-pub left_counts : (book : List ℕ) → check_book book ≡ Good → (number : ℕ) (rule : Rule) → rule_at book number ≡ some rule → left_count rule.left ≡ root_arguments (left_in rule)
+pub left_counts : (book : List ℕ) → check_book book ≡ Ok tt → (number : ℕ) (rule : Rule) → rule_at book number ≡ some rule → left_count rule.left ≡ root_arguments (left_in rule)
 left_counts book accepted number rule e =
     let f = book_rule book number rule accepted e in
     let i = f.left_tree in
@@ -58,7 +58,7 @@ left_counts book accepted number rule e =
     c.3 ∙ sym (ap root_arguments (left_in_lem rule i ∙ ap left_of c.2) ∙ symbol_counts c.0 c.1 (rw c.2 at f.left_root))
 
 -- where a Leaf fits an accepted book, it holds what the root has more than the left side of its rule
-pub aside_is : (book : List ℕ) → check_book book ≡ Good → (t : Row) → IsBody t → (leaf : LeafNode) → book_fits book (root_count t) leaf ≡ true → leaf.aside ≡ aside_o (rule_at book leaf.rule) t
+pub aside_is : (book : List ℕ) → check_book book ≡ Ok tt → (t : Row) → IsBody t → (leaf : LeafNode) → book_fits book (root_count t) leaf ≡ true → leaf.aside ≡ aside_o (rule_at book leaf.rule) t
 aside_is book accepted t i leaf e =
     let r = fits_rule book (root_count t) leaf e in
     let o = one_tree t i.one in

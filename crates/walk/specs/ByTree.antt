@@ -1,9 +1,7 @@
 -- What matching by the tree answers: document 01's numbers 11, 14, 1, 13, in this order. What is set aside, its words and lengths are those of matching
 -- one rule; the visits are those of the walk (document 02, E7).
-use Rattle.std.specs.Prelude.{ℕ, List, leb, length}
+use Rattle.std.specs.Prelude.{ℕ, List, leb, length, Result, Ok, Err}
 use Rattle.term.specs.Word.{pick}
-use Rattle.term.specs.declared.check.Checked.{Checked}
-use Rattle.term.specs.declared.check.Checked.TheVariants.{Good, Bad}
 use Rattle.term.specs.declared.answer.Answer.TheVariants.{NoFit, BadTerm, Damaged}
 use Rattle.term.specs.Answer.{Answered, answered}
 use Rattle.term.specs.Check.{check, term_limits}
@@ -15,9 +13,9 @@ walked_match NoneFits = refused NoFit
 walked_match (RuleFits f n) = fitted n f.aside f.bodies
 walked_match (DamagedAt at) = refused (Damaged at)
 
-abbrev pub term_match : Checked → Walked → Matched
-term_match Good w = walked_match w
-term_match (Bad at) w = refused (BadTerm at)
+abbrev pub term_match : Result (Unit {0}) ℕ → Walked → Matched
+term_match (Ok _) w = walked_match w
+term_match (Err at) w = refused (BadTerm at)
 
 unfoldable pub match_tree : List ℕ → List ℕ → Matched
 match_tree table ws = term_match (check term_limits ws) (walk no_book table (tree_of ws))
@@ -28,17 +26,17 @@ walked_rule room NoneFits = 0
 walked_rule room (RuleFits f n) = pick (leb (length (body_list f.bodies 0 n)) room) f.number 0
 walked_rule room (DamagedAt at) = 0
 
-abbrev pub term_rule : ℕ → Checked → Walked → ℕ
-term_rule room Good w = walked_rule room w
-term_rule room (Bad at) w = 0
+abbrev pub term_rule : ℕ → Result (Unit {0}) ℕ → Walked → ℕ
+term_rule room (Ok _) w = walked_rule room w
+term_rule room (Err at) w = 0
 
 unfoldable pub match_tree_rule : ℕ → List ℕ → List ℕ → ℕ
 match_tree_rule room table ws = term_rule room (check term_limits ws) (walk no_book table (tree_of ws))
 
 -- the nodes that the walk visited, "and zero before any walk"
-abbrev pub term_visits : Checked → ℕ → ℕ
-term_visits Good v = v
-term_visits (Bad at) v = 0
+abbrev pub term_visits : Result (Unit {0}) ℕ → ℕ → ℕ
+term_visits (Ok _) v = v
+term_visits (Err at) v = 0
 
 unfoldable pub match_tree_visits : List ℕ → List ℕ → ℕ
 match_tree_visits table ws = term_visits (check term_limits ws) (visits table (tree_of ws))

@@ -5,19 +5,17 @@ ghost use Rattle.walk.specs.Told.State.{Parted, WalkTold, walked_here, visits_he
 ghost use Rattle.walk.specs.ByTree.{match_tree_came, match_tree_gives};
 
 use crate::leaf::{first_count, write_leaf};
-use crate::state::{FIRST, NO_RULE, RULE, THIRD, Walk, walk_tree};
+use crate::state::{FIRST, NO_VISITS, Stands, THIRD, Walk, walk_tree};
 use term::answer::Answer;
-use term::check::{Checked, check_term};
+use term::check::check_term;
 use term::lent::clear;
 use tree::node::MOST_TREE;
 
 // What is said for the rule and for what is set aside where no rule was found.
 const NONE: u32 = 0;
 
-// The visits where nothing was walked.
-const NO_VISITS: u64 = 0;
-
 // The answer, the rule that was found, how many arguments are set aside, and how many nodes the walk visited.
+// Not a Result: the contract of match_tree names all four, at each answer.
 #[derive(Clone, Copy)]
 pub struct TreeMatch {
     pub answer: Answer,
@@ -40,23 +38,22 @@ fn no_rule(answer: Answer, visits: u64) -> TreeMatch
 
 // A walk that ended over a term, with cleared outputs. Where no book is given, no more can be set aside than the root has.
 fn match_walk(
-    walk: Walk,
+    walk: &Walk,
     tree: &[u32],
     term: &[u32],
     bodies: &mut [u32],
-    lengths: &mut [u32],
+    lengths: &mut [u32; 16],
 ) -> TreeMatch
-    requires { Parted term.now × (0 < length term.now) × WalkTold tree.now term.now walk × (bodies.old ≡ replicate (length bodies.old) 0) × (lengths.old ≡ replicate 16 0) }
+    requires { Parted term.now × (0 < length term.now) × WalkTold tree.now term.now walk.now × (bodies.old ≡ replicate (length bodies.old) 0) × (lengths.old ≡ replicate 16 0) }
     ensures { match_tree_came (answered result.answer) result.rule result.aside result.visits bodies.new lengths.new
         ≡ walked_gives (length bodies.old) (walked_here tree.now term.now) (visits_here tree.now term.now) }
 {
     let at = walk.at;
-    let visits = walk.visits as u64;
-    if walk.stands == NO_RULE {
-        return no_rule(Answer::NoFit, visits);
-    }
-    if walk.stands != RULE {
-        return no_rule(Answer::Damaged(at), visits);
+    let visits = walk.visits;
+    match walk.stands {
+        Stands::Rule => (),
+        Stands::NoRule => return no_rule(Answer::NoFit, visits),
+        _ => return no_rule(Answer::Damaged(at), visits),
     }
     let aside = tree[at + THIRD];
     if first_count(term) < aside {
@@ -84,11 +81,11 @@ pub fn match_tree(
 {
     clear(bodies);
     clear(lengths);
-    if let Checked::Bad(at) = check_term(term) {
+    if let Err(at) = check_term(term) {
         return no_rule(Answer::BadTerm(at), NO_VISITS);
     }
     if MOST_TREE < tree.len() {
         return no_rule(Answer::Damaged(MOST_TREE), NO_VISITS);
     }
-    match_walk(walk_tree(tree, term), tree, term, bodies, lengths)
+    match_walk(&walk_tree(tree, term), tree, term, bodies, lengths)
 }

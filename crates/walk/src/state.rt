@@ -10,14 +10,17 @@ use term::word::count_of;
 // Each uncovered place is another part of the term.
 pub const PLACES: usize = 4096;
 
+// The visits where nothing was walked.
+pub const NO_VISITS: u64 = 0;
+
 // How a walk stands: it goes on at the address, or ended there.
-pub const GOING: u8 = 0;
-
-pub const NO_RULE: u8 = 1;
-
-pub const RULE: u8 = 2;
-
-pub const DAMAGED: u8 = 3;
+#[derive(Clone, Copy, PartialEq, Eq)]
+pub enum Stands {
+    Going,
+    NoRule,
+    Rule,
+    Damaged,
+}
 
 // The words of a node after its tag.
 pub const FIRST: usize = 1;
@@ -33,6 +36,7 @@ pub const NODE_WORDS: usize = 3;
 pub const LEAF_WORDS: usize = 4;
 
 // For each uncovered place the offset of its part in the term, the abstractions passed, and whether it was entered; and the nodes visited.
+// Three lists and no list of places: Holds, place_in, moved_to and entry_at of specs/Told/State.antt speak of each, and their meaning stays.
 #[derive(Clone, Copy)]
 pub struct Walk {
     pub offsets: [u16; PLACES],
@@ -40,8 +44,8 @@ pub struct Walk {
     pub entered: [bool; PLACES],
     pub count: usize,
     pub at: usize,
-    pub stands: u8,
-    pub visits: u32,
+    pub stands: Stands,
+    pub visits: u64,
 }
 
 impl Walk {
@@ -55,13 +59,13 @@ impl Walk {
             entered: [false; PLACES],
             count: 1,
             at: 0,
-            stands: GOING,
-            visits: 0,
+            stands: Stands::Going,
+            visits: NO_VISITS,
         }
     }
 
     // The walk ends at the node where it is.
-    pub fn stop(mut self, stands: u8) -> Walk
+    pub fn stop(mut self, stands: Stands) -> Walk
         ensures { result ≡ stopped_as self stands }
     {
         self.stands = stands;
@@ -87,14 +91,14 @@ impl Walk {
         self.entered[n] = true;
         let mut count = self.count;
         let mut from = offset + 1;
-        let mut more = count_of(word);
-        while more != 0 {
+        let more = count_of(word);
+        // A place and the offset of its part run along together.
+        for _ in 0..more {
             self.offsets[count] = from as u16;
             self.depths[count] = inner as u8;
             self.entered[count] = false;
-            from = from + part_end(&term[from..]);
-            count = count + 1;
-            more = more - 1;
+            from += part_end(&term[from..]);
+            count += 1;
         }
         self.count = count;
         self.at = to;
@@ -102,26 +106,17 @@ impl Walk {
     }
 }
 
-// Walks the tree over the part that the words begin with, node by node, until it ends. What a node says is decided from what the state
-// lends of itself, so the state is handed on once for a node, and each turn visits one.
+// Walks the tree over the part that the words begin with, node by node, until it ends. What a node says is decided from the state that is
+// lent, so the state is handed on once for a node, and each turn visits one.
 pub fn walk_tree(tree: &[u32], term: &[u32]) -> Walk
     requires { Parted term.now × (0 < length term.now) × (length tree.now ≤ 16384) }
     ensures { WalkTold tree.now term.now result }
 {
     let mut walk = Walk::new();
-    while walk.stands == GOING {
-        let count = walk.count;
-        let at = walk.at;
-        let decision = decide(
-            tree,
-            term,
-            &walk.offsets,
-            &walk.depths,
-            &walk.entered,
-            count,
-            at,
-        );
-        walk.visits = walk.visits + 1;
+    // A while: document 01's walk goes on as long as its state says so.
+    while walk.stands == Stands::Going {
+        let decision = decide(tree, term, &walk);
+        walk.visits += 1;
         match decision {
             Decision::Enter(n, to) => walk = walk.enter(term, n, to),
             Decision::Go(to) => walk = walk.test(to),

@@ -5,32 +5,23 @@ ghost use Rattle.walk.specs.Told.State.{Parted, WalkTold};
 ghost use Rattle.walk.specs.Told.WithBook.{book_walk, book_visits, counts_in, leaf_fits, SkipTold, BookWalked};
 
 use crate::leaf::{K_AT, VARIABLE_WORDS, first_count, write_leaf};
-use crate::state::{FIRST, LEAF_WORDS, NO_RULE, NODE_WORDS, RULE, SECOND, THIRD, Walk, walk_tree};
-use crate::taken::{CASE_WORDS, Taken, find_case};
-use book::book::{Found, find_rule};
+use crate::state::{
+    FIRST, LEAF_WORDS, NO_VISITS, NODE_WORDS, SECOND, Stands, THIRD, Walk, walk_tree,
+};
+use crate::taken::{CASE_WORDS, find_case};
+use book::book::find_rule;
 use book::variables::counted_in;
 use tree::node::{FAIL, MOST_TREE, SWITCH};
 
-// The rule that the walk found, or why there is none.
-#[derive(Clone, Copy)]
-pub enum BookMatch {
-    None,
-    Rule(u32),
-    Damaged(usize),
-}
-
-// What the walk found, and how many nodes it visited.
+// What the walk found, and how many nodes it visited: a rule or none, or the address of the damage.
 #[derive(Clone, Copy)]
 pub struct BookWalk {
-    pub found: BookMatch,
-    pub visits: u32,
+    pub found: Result<Option<u32>, usize>,
+    pub visits: u64,
 }
 
-// The visits where nothing was walked.
-const NO_VISITS: u32 = 0;
-
 // The visits where the root alone settles it: the root and its default.
-const ROOT_VISITS: u32 = 2;
+const ROOT_VISITS: u64 = 2;
 
 // Whether the n variables of a Leaf from an address on have the counts that they have in a left side.
 fn counts_fit(tree: &[u32], from: usize, n: u32, left: &[u32]) -> bool
@@ -38,8 +29,7 @@ fn counts_fit(tree: &[u32], from: usize, n: u32, left: &[u32]) -> bool
     ensures { result ≡ counts_in left.now 0 (variables_in n (drop from tree.now)) }
 {
     let mut at = from;
-    let mut x: u32 = 0;
-    while x < n {
+    for x in 0..n {
         if tree.len() - at < VARIABLE_WORDS {
             return false;
         }
@@ -48,15 +38,10 @@ fn counts_fit(tree: &[u32], from: usize, n: u32, left: &[u32]) -> bool
         if tree.len() - list < k as usize {
             return false;
         }
-        let counted = counted_in(x, left);
-        if counted == 0 {
-            return false;
-        }
-        if counted - 1 != k {
+        if counted_in(x, left).checked_sub(1) != Some(k) {
             return false;
         }
         at = list + k as usize;
-        x = x + 1;
     }
     true
 }
@@ -65,13 +50,7 @@ fn counts_fit(tree: &[u32], from: usize, n: u32, left: &[u32]) -> bool
 fn aside_fits(aside: u32, left: &[u32], arguments: u32) -> bool
     ensures { result ≡ eqb (aside + left_count left.now) arguments }
 {
-    if arguments < aside {
-        return false;
-    }
-    if first_count(left) != arguments - aside {
-        return false;
-    }
-    true
+    aside <= arguments && first_count(left) == arguments - aside
 }
 
 // Whether the Leaf at an address fits the book, for a root with so many arguments: its rule is there, with as many variables, just what the left side
@@ -80,33 +59,21 @@ fn leaf_fits(book: &[u32], tree: &[u32], at: usize, arguments: u32) -> bool
     requires { at + 4 ≤ length tree.now }
     ensures { result ≡ leaf_fits book.now arguments tree.now at }
 {
-    let Found::Rule(sides) = find_rule(book, tree[at + FIRST]) else {
+    let Some(sides) = find_rule(book, tree[at + FIRST]) else {
         return false;
     };
     let n = tree[at + SECOND];
-    if sides.vars != n {
-        return false;
-    }
-    let from = sides.left;
-    let to = sides.right;
-    let left = &book[from..to];
-    if !aside_fits(tree[at + THIRD], left, arguments) {
-        return false;
-    }
-    counts_fit(tree, at + LEAF_WORDS, n, left)
+    let left = &book[sides.left..sides.right];
+    sides.vars == n
+        && aside_fits(tree[at + THIRD], left, arguments)
+        && counts_fit(tree, at + LEAF_WORDS, n, left)
 }
 
 // Whether the tree's root is a Switch on the place 0 that has no case for a word, and its default is a Fail. No state is needed to say so.
 fn skips(tree: &[u32], word: u32) -> bool
     ensures { SkipTold tree.now word result }
 {
-    if tree.len() < NODE_WORDS {
-        return false;
-    }
-    if tree[0] != SWITCH {
-        return false;
-    }
-    if tree[FIRST] != 0 {
+    if tree.len() < NODE_WORDS || tree[0] != SWITCH || tree[FIRST] != 0 {
         return false;
     }
     let cases = tree[SECOND] as usize;
@@ -114,46 +81,37 @@ fn skips(tree: &[u32], word: u32) -> bool
         return false;
     }
     let default = tree[NODE_WORDS + CASE_WORDS * cases] as usize;
-    if default == 0 {
+    if default == 0 || tree.len() <= default {
         return false;
     }
-    if tree.len() <= default {
-        return false;
-    }
-    if tree[default] != FAIL {
-        return false;
-    }
-    match find_case(tree, NODE_WORDS, cases, word) {
-        Taken::To(_) => false,
-        Taken::Not => true,
-    }
+    tree[default] == FAIL && find_case(tree, NODE_WORDS, cases, word).is_none()
 }
 
 // A walk that ended over a part, with cleared outputs. There is always room for the bodies.
 fn match_with(
-    walk: Walk,
+    walk: &Walk,
     book: &[u32],
     tree: &[u32],
     term: &[u32],
     bodies: &mut [u32],
-    lengths: &mut [u32],
-) -> BookMatch
-    requires { Parted term.now × (0 < length term.now) × WalkTold tree.now term.now walk × (length tree.now ≤ 16384)
+    lengths: &mut [u32; 16],
+) -> Result<Option<u32>, usize>
+    requires { Parted term.now × (0 < length term.now) × WalkTold tree.now term.now walk.now × (length tree.now ≤ 16384)
         × (bodies.old ≡ replicate 65536 0) × (lengths.old ≡ replicate 16 0) }
     ensures { BookWalked (book_walk book.now tree.now term.now) result bodies.new lengths.new }
 {
     let at = walk.at;
-    if walk.stands == NO_RULE {
-        return BookMatch::None;
-    }
-    if walk.stands != RULE {
-        return BookMatch::Damaged(at);
+    // As in match_walk, which says it with the visits: an Option in a Result is no plainer than three arms.
+    match walk.stands {
+        Stands::Rule => (),
+        Stands::NoRule => return Ok(None),
+        _ => return Err(at),
     }
     if !leaf_fits(book, tree, at, first_count(term)) {
-        return BookMatch::Damaged(at);
+        return Err(at);
     }
     write_leaf(walk, tree, term, bodies, lengths);
-    BookMatch::Rule(tree[at + FIRST])
+    Ok(Some(tree[at + FIRST]))
 }
 
 // Walks the tree over the part that the words begin with, and judges a Leaf by the book: the rule that was found, its bodies in variable
@@ -163,7 +121,7 @@ pub fn walk_book(
     tree: &[u32],
     term: &[u32],
     bodies: &mut [u32],
-    lengths: &mut [u32],
+    lengths: &mut [u32; 16],
 ) -> BookWalk
     requires { Parted term.now × (0 < length term.now) × (bodies.old ≡ replicate 65536 0) × (lengths.old ≡ replicate 16 0) }
     ensures { BookWalked (book_walk book.now tree.now term.now) result.found bodies.new lengths.new
@@ -171,20 +129,19 @@ pub fn walk_book(
 {
     if MOST_TREE < tree.len() {
         return BookWalk {
-            found: BookMatch::Damaged(MOST_TREE),
+            found: Err(MOST_TREE),
             visits: NO_VISITS,
         };
     }
     if skips(tree, term[0]) {
         return BookWalk {
-            found: BookMatch::None,
+            found: Ok(None),
             visits: ROOT_VISITS,
         };
     }
     let walk = walk_tree(tree, term);
-    let visits = walk.visits;
     BookWalk {
-        found: match_with(walk, book, tree, term, bodies, lengths),
-        visits,
+        found: match_with(&walk, book, tree, term, bodies, lengths),
+        visits: walk.visits,
     }
 }

@@ -1,5 +1,5 @@
 -- The list of a pattern variable, in words: the ids of the variables that follow it.
-use Rattle.std.specs.Prelude.{ℕ, zero, suc, ◌-◌, Bool, true, false, List, [], ◌∷◌, ◌++◌, length, replicate, leb}
+use Rattle.std.specs.Prelude.{ℕ, zero, suc, ◌-◌, List, [], ◌∷◌, ◌++◌, length, replicate, leb, Option as StdOption, Some, None}
 use Rattle.std.proofs.Math.Option.{Option, none, some}
 use Rattle.term.specs.Word.{Head, pick, head_of}
 use Rattle.book.specs.Rule.{id_before}
@@ -18,11 +18,7 @@ variable_ids (suc k) (w ∷ ws) = id_before_o (head_of w) (variable_ids k ws)
 unfoldable pub list_in : ℕ → List ℕ → Option (List ℕ)
 list_in k ws = pick (leb k 4) (variable_ids k ws) none
 
-abbrev pub is_list : Option (List ℕ) → Bool
-is_list none = false
-is_list (some ys) = true
-
--- four words: the ids and then zeros; zeros where there is no list
-unfoldable pub four_of : Option (List ℕ) → List ℕ
-four_of none = replicate 4 0
-four_of (some ys) = ys ++ replicate (4 - length ys) 0
+-- four words: the ids and then zeros
+unfoldable pub four_of : Option (List ℕ) → StdOption (List ℕ)
+four_of none = None
+four_of (some ys) = Some (ys ++ replicate (4 - length ys) 0)

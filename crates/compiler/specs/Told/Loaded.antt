@@ -22,10 +22,6 @@ word_or ws o = pick (ltb o (length ws)) (get_or ws o 0) 33554432
 unfoldable pub depth_or : List ℕ → ℕ → ℕ
 depth_or ws o = pick (ltb o (length ws)) (depth_of ws o) 0
 
--- 64 words from this one on are what this function says
-abbrev pub filled : ℕ → (ℕ → ℕ) → ℕ → ℕ → ℕ
-filled from f k x = pick (ltb k from) x (pick (ltb k (from + 64)) (f (k - from)) x)
-
 -- ---- the rules in the fixed table
 pub record RowAt (fixed : List ℕ) (r : ℕ) (ws : List ℕ) (vars : ℕ) : Type 0 where
   pub words : (o : ℕ) → o < 64 → get_or fixed (r * 64 + o) 0 ≡ word_or ws o

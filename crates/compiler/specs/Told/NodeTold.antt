@@ -1,8 +1,6 @@
 -- What the functions that make the nodes need and tell, and the number that falls from node to node.
-use Rattle.std.specs.Prelude.{ℕ, zero, suc, ◌+◌, ◌*◌, ◌/◌, ◌≤◌, ◌<◌, ◌≡◌, Bool, true, false, ◌&&◌, List, [], ◌∷◌, ◌++◌, length, get_or}
+use Rattle.std.specs.Prelude.{ℕ, zero, suc, ◌+◌, ◌*◌, ◌/◌, ◌≤◌, ◌<◌, ◌≡◌, Bool, true, false, ◌&&◌, List, [], ◌∷◌, ◌++◌, length, get_or, Option, Some, None}
 use Rattle.std.proofs.lemmas.List.Edits.{sets}
-use Rattle.term.specs.declared.renumber.Passed.{Passed}
-use Rattle.term.specs.declared.renumber.Passed.TheVariants.{Done, Stuck}
 use Rattle.term.specs.Word.{Head, word, InTable}
 use Rattle.tree.specs.Tree.{Tree, Cases}
 use Rattle.tree.specs.Path.{OnPath, place_numbered}
@@ -67,17 +65,17 @@ pub record HeadOfCase (fixed nums marks : List ℕ) (n w : ℕ) : Type 0 where
 
 -- ---- what is told
 -- of the tree of one case whose head has the word w, for every path that the tables stand for
-unfoldable pub OneTold : (OnPath → Type 0) → (OnPath → Head → Tree) → ℕ → ℕ → ℕ → List ℕ → List ℕ → Passed → Type 0
-OneTold stands tree limit at w out done (Done a) =
+unfoldable pub OneTold : (OnPath → Type 0) → (OnPath → Head → Tree) → ℕ → ℕ → ℕ → List ℕ → List ℕ → Option ℕ → Type 0
+OneTold stands tree limit at w out done (Some a) =
     (path : OnPath) → stands path → (h : Head) → word h ≡ w → InTable h → (a ≡ at + long (tree path h)) × (done ≡ sets out at (layout at (tree path h)))
-OneTold stands tree limit at w out done Stuck = (path : OnPath) → stands path → (h : Head) → word h ≡ w → InTable h → limit < at + long (tree path h)
+OneTold stands tree limit at w out done None = (path : OnPath) → stands path → (h : Head) → word h ≡ w → InTable h → limit < at + long (tree path h)
 
 -- of all cases: their heads and addresses and the default's address are written from `slot` on, their trees from `at` on
-unfoldable pub AllTold : (OnPath → Type 0) → (OnPath → Cases) → ℕ → ℕ → ℕ → List ℕ → List ℕ → Passed → Type 0
-AllTold stands cases limit slot at out done (Done a) =
+unfoldable pub AllTold : (OnPath → Type 0) → (OnPath → Cases) → ℕ → ℕ → ℕ → List ℕ → List ℕ → Option ℕ → Type 0
+AllTold stands cases limit slot at out done (Some a) =
     (path : OnPath) → stands path
     → (a ≡ at + long_cases (cases path)) × (done ≡ sets (sets out slot (case_heads at (cases path) ++ (a ∷ []))) at (layout_cases at (cases path)))
-AllTold stands cases limit slot at out done Stuck = (path : OnPath) → stands path → limit < at + long_cases (cases path)
+AllTold stands cases limit slot at out done None = (path : OnPath) → stands path → limit < at + long_cases (cases path)
 
 -- the cases of a Switch at n
 abbrev pub case_tree : List ℕ → List ℕ → ℕ → OnPath → Head → Tree
@@ -86,8 +84,8 @@ case_tree book marks n path h = compile (entering n h path) (case_rows (place_nu
 abbrev pub switch_cases : List ℕ → List ℕ → ℕ → OnPath → Cases
 switch_cases book marks n path = cases_of compile path (rows_left book marks 0 64) n (heads (place_numbered n path.uncovered) (rows_left book marks 0 64))
 
-abbrev pub CaseTold : List ℕ → List ℕ → List ℕ → List ℕ → ℕ → ℕ → ℕ → ℕ → ℕ → List ℕ → List ℕ → Passed → Type 0
+abbrev pub CaseTold : List ℕ → List ℕ → List ℕ → List ℕ → ℕ → ℕ → ℕ → ℕ → ℕ → List ℕ → List ℕ → Option ℕ → Type 0
 CaseTold book fixed nums marks limit count at n w out done x = OneTold (Stands book fixed nums marks count) (case_tree book marks n) limit at w out done x
 
-abbrev pub CasesTold : List ℕ → List ℕ → List ℕ → List ℕ → ℕ → ℕ → ℕ → ℕ → ℕ → List ℕ → List ℕ → Passed → Type 0
+abbrev pub CasesTold : List ℕ → List ℕ → List ℕ → List ℕ → ℕ → ℕ → ℕ → ℕ → ℕ → List ℕ → List ℕ → Option ℕ → Type 0
 CasesTold book fixed nums marks limit count slot at n out done x = AllTold (Stands book fixed nums marks count) (switch_cases book marks n) limit slot at out done x

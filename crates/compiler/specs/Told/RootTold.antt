@@ -1,8 +1,6 @@
 -- What the functions that make the root Switch need and tell.
-use Rattle.std.specs.Prelude.{ℕ, ◌+◌, ◌≤◌, ◌<◌, ◌≡◌, List, length, get_or}
+use Rattle.std.specs.Prelude.{ℕ, ◌+◌, ◌≤◌, ◌<◌, ◌≡◌, List, length, get_or, Option, Some, None}
 use Rattle.std.proofs.lemmas.List.Edits.{sets}
-use Rattle.term.specs.declared.renumber.Passed.{Passed}
-use Rattle.term.specs.declared.renumber.Passed.TheVariants.{Done, Stuck}
 use Rattle.term.specs.Word.{Head, symbol, word}
 use Rattle.tree.specs.Tree.{Tree, Cases}
 use Rattle.tree.specs.Path.{OnPath, start}
@@ -46,15 +44,15 @@ root_case_tree book marks path h = compile (entering 0 h start) (root_case_rows 
 abbrev pub root_cases_for : List ℕ → List ℕ → OnPath → List Head → Cases
 root_cases_for book marks path hs = root_cases (rows_left book marks 0 64) hs
 
-abbrev pub RootCaseTold : List ℕ → List ℕ → List ℕ → List ℕ → ℕ → ℕ → ℕ → List ℕ → List ℕ → Passed → Type 0
+abbrev pub RootCaseTold : List ℕ → List ℕ → List ℕ → List ℕ → ℕ → ℕ → ℕ → List ℕ → List ℕ → Option ℕ → Type 0
 RootCaseTold book fixed nums marks limit at w out done x = OneTold (AtStart book fixed nums marks) (root_case_tree book marks) limit at w out done x
 
-abbrev pub RootCasesTold : List ℕ → List ℕ → List ℕ → List ℕ → ℕ → ℕ → ℕ → List ℕ → List ℕ → Passed → Type 0
+abbrev pub RootCasesTold : List ℕ → List ℕ → List ℕ → List ℕ → ℕ → ℕ → ℕ → List ℕ → List ℕ → Option ℕ → Type 0
 RootCasesTold book fixed nums marks limit slot at out done x =
     AllTold (AtStart book fixed nums marks) (λ path. root_cases_for book marks path (root_heads (rows_left book marks 0 64))) limit slot at out done x
 
 -- of the whole tree
-unfoldable pub RootTold : List ℕ → List ℕ → List ℕ → List ℕ → ℕ → List ℕ → List ℕ → Passed → Type 0
-RootTold book fixed nums marks limit out done (Done a) =
+unfoldable pub RootTold : List ℕ → List ℕ → List ℕ → List ℕ → ℕ → List ℕ → List ℕ → Option ℕ → Type 0
+RootTold book fixed nums marks limit out done (Some a) =
     Stands book fixed nums marks 1 start → (a ≡ long (root_tree (rows_left book marks 0 64))) × (done ≡ sets out 0 (layout 0 (root_tree (rows_left book marks 0 64))))
-RootTold book fixed nums marks limit out done Stuck = Stands book fixed nums marks 1 start → limit < long (root_tree (rows_left book marks 0 64))
+RootTold book fixed nums marks limit out done None = Stands book fixed nums marks 1 start → limit < long (root_tree (rows_left book marks 0 64))

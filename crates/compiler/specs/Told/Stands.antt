@@ -1,10 +1,7 @@
 -- What the compiler's tables stand for: a path, and the rows that are not struck, each a rule seen from the path.
-use Rattle.std.specs.Prelude.{ℕ, zero, suc, ◌+◌, ◌-◌, ◌*◌, ◌≤◌, ◌<◌, ◌≡◌, Bool, true, false, not, List, [], ◌∷◌, ◌++◌, eqb, length, get_or}
+use Rattle.std.specs.Prelude.{ℕ, zero, suc, ◌+◌, ◌-◌, ◌*◌, ◌≤◌, ◌<◌, ◌≡◌, Bool, true, false, not, List, [], ◌∷◌, ◌++◌, eqb, length, get_or, Option as StdOption, Some, None, Ok}
 use Rattle.std.proofs.Math.Option.{Option, none, some}
 use Rattle.std.proofs.lemmas.List.Edits.{sets}
-use Rattle.term.specs.declared.renumber.Passed.{Passed}
-use Rattle.term.specs.declared.renumber.Passed.TheVariants.{Done, Stuck}
-use Rattle.term.specs.declared.check.Checked.TheVariants.{Good}
 use Rattle.term.specs.Word.{variable, pattern, word}
 use Rattle.term.specs.Renumber.{inside}
 use Rattle.book.specs.Book.{Rule, check_book, rule_at}
@@ -100,7 +97,7 @@ pub record RowStands (fixed nums marks : List ℕ) (path : OnPath) (r vars : ℕ
   pub struck : StruckAt marks path.held [] (occurrences_at (r * 64) [] 0 0 left)
 
 pub record Stands (book fixed nums marks : List ℕ) (count : ℕ) (path : OnPath) : Type 0 where
-  pub accepted : check_book book ≡ Good
+  pub accepted : check_book book ≡ Ok tt
   pub counted : length path.uncovered ≡ count
   pub opened : (n : ℕ) → n < count → is_free marks (64 + n) ≡ is_open n path.uncovered
   pub later : (n : ℕ) → count ≤ n → n < 4096 → is_free marks (64 + n) ≡ true
@@ -116,11 +113,11 @@ pub record Stands (book fixed nums marks : List ℕ) (count : ℕ) (path : OnPat
   pub rows : (r : ℕ) (rule : Rule) → r < 64 → is_free marks r ≡ true → rule_at book r ≡ some rule → RowStands fixed nums marks path r rule.vars (left_in rule)
 
 -- ---- what the compiler tells of the tree of the rows that are not struck, from the address `at` on
-unfoldable pub TreeTold : List ℕ → List ℕ → List ℕ → List ℕ → ℕ → ℕ → ℕ → List ℕ → List ℕ → Passed → Type 0
-TreeTold book fixed nums marks limit count at out done (Done a) =
+unfoldable pub TreeTold : List ℕ → List ℕ → List ℕ → List ℕ → ℕ → ℕ → ℕ → List ℕ → List ℕ → StdOption ℕ → Type 0
+TreeTold book fixed nums marks limit count at out done (Some a) =
     (path : OnPath) → Stands book fixed nums marks count path
     → (a ≡ at + long (compile path (rows_left book marks 0 64))) × (done ≡ sets out at (layout at (compile path (rows_left book marks 0 64))))
-TreeTold book fixed nums marks limit count at out done Stuck =
+TreeTold book fixed nums marks limit count at out done None =
     (path : OnPath) → Stands book fixed nums marks count path → limit < at + long (compile path (rows_left book marks 0 64))
 
 -- ---- the cycle of calls that makes a tree
@@ -135,6 +132,6 @@ pub record TreeReady (fixed nums marks : List ℕ) (limit count at : ℕ) : Type
   pub stands : Stands book fixed nums marks count path
 
 -- the tables are left as they were found, and the offset after the tree is past its address by no more than a node of a compiled tree takes
-abbrev pub TreeKept : List ℕ → List ℕ → ℕ → ℕ → List ℕ → List ℕ → Passed → Type 0
-TreeKept nums marks limit at nums-after marks-after (Done a) = (nums-after ≡ nums) × (marks-after ≡ marks) × (at ≤ a) × (a ≤ limit + 5000)
-TreeKept nums marks limit at nums-after marks-after Stuck = Unit {0}
+abbrev pub TreeKept : List ℕ → List ℕ → ℕ → ℕ → List ℕ → List ℕ → StdOption ℕ → Type 0
+TreeKept nums marks limit at nums-after marks-after (Some a) = (nums-after ≡ nums) × (marks-after ≡ marks) × (at ≤ a) × (a ≤ limit + 5000)
+TreeKept nums marks limit at nums-after marks-after None = Unit {0}

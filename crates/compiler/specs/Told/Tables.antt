@@ -1,8 +1,11 @@
 -- What the compiler's tables say. A spot is a word of a left side: the spots of rule r are r * 64 and the next. `fixed` has the word of each spot and the
 -- abstractions passed there; `nums` has for each spot one more than the number of its place, 0 where it is not uncovered; `marks` has what is struck and entered.
-use Rattle.std.specs.Prelude.{ℕ, zero, suc, ◌+◌, ◌-◌, ◌*◌, ◌/◌, ◌%◌, ◌≡◌, Bool, true, false, ◌&&◌, ◌||◌, List, [], ◌∷◌, ◌++◌, eqb, ltb, leb, get_or, set, take, drop}
+use Rattle.std.specs.Prelude.{ℕ, zero, suc, ◌+◌, ◌-◌, ◌*◌, ◌/◌, ◌%◌, ◌≡◌, Bool, true, false, ◌&&◌, ◌||◌, List, [], ◌∷◌, ◌++◌, eqb, ltb, leb, get_or, set, take, drop, Option, Some, None}
 use Rattle.term.specs.Word.{pick, kind_of, count_of, ident_of}
 use Rattle.term.specs.Part.{part_end}
+use Rattle.compiler.specs.declared.constraint.Kind.{Kind}
+use Rattle.compiler.specs.declared.constraint.Kind.TheVariants.{Closed, Same}
+use Rattle.compiler.specs.declared.constraint.Constraint.{Constraint}
 
 -- ---- searching and changing a table
 -- the first of so many numbers from i on for which a test holds; the one after them where it holds for none
@@ -22,6 +25,15 @@ Changed f before after = (k : ℕ) → get_or after k 0 ≡ f k (get_or before k
 -- only the words for which a test holds are changed
 abbrev pub only_at : (ℕ → Bool) → (ℕ → ℕ → ℕ) → ℕ → ℕ → ℕ
 only_at p f k x = pick (p k) (f k x) x
+
+-- a number as an answer, where this one stands for "there is none"
+abbrev pub unless : ℕ → ℕ → Option ℕ
+unless none x = pick (eqb x none) None (Some x)
+
+-- the number of a place, of which a table has one more; 0 is no place's
+abbrev pub place_of : ℕ → Option ℕ
+place_of zero = None
+place_of (suc n) = Some n
 
 -- a mark is taken away
 abbrev pub unmarked : ℕ → ℕ → ℕ → ℕ
@@ -49,6 +61,10 @@ row_of from k = (k - from) / 64
 -- a word of a row that is not struck
 abbrev pub of_free_row : List ℕ → ℕ → ℕ → Bool
 of_free_row marks from k = pick (ltb k from) false (pick (ltb k (from + 4096)) (is_free marks (row_of from k)) false)
+
+-- a word of this row
+abbrev pub of_row : ℕ → ℕ → Bool
+of_row r k = eqb (k / 64) r
 
 -- the first row that is not struck, 64 where there is none
 unfoldable pub first_row : List ℕ → ℕ
@@ -94,6 +110,11 @@ lowest_from fixed nums marks k (suc more) best = lowest_from fixed nums marks (s
 abbrev pub has_head : List ℕ → List ℕ → List ℕ → ℕ → ℕ → ℕ → Bool
 has_head fixed nums marks n w r = is_free marks r && eqb (head_word fixed nums r n) w
 
+-- no head has the word that stands for none
+abbrev pub head_or : Option ℕ → ℕ
+head_or None = 33554432
+head_or (Some w) = w
+
 -- it has a head at the place, and another than w
 abbrev pub is_other : ℕ → ℕ → Bool
 is_other w g = pick (eqb g 33554432) false (pick (eqb g w) false true)
@@ -114,6 +135,17 @@ unfoldable pub count_heads : List ℕ → List ℕ → List ℕ → ℕ → ℕ
 count_heads fixed nums marks n = many_at (λ r. is_head_word (new_head fixed nums marks n r)) 0 64
 
 -- ---- constraints, by their place in the marks: 4160 or 8256, and the spot of the (later) occurrence
+abbrev pub marks_of : Kind → ℕ
+marks_of Closed = 4160
+marks_of Same = 8256
+
+abbrev pub mark_at : Constraint → ℕ
+mark_at own = marks_of own.kind + own.spot
+
+abbrev pub mark_or : Option Constraint → Option ℕ
+mark_or None = None
+mark_or (Some own) = Some (mark_at own)
+
 abbrev pub is_variable : List ℕ → ℕ → ℕ → Bool
 is_variable fixed x k = eqb (kind_of (get_or fixed k 0)) 3 && eqb (ident_of (get_or fixed k 0)) x
 
@@ -149,6 +181,10 @@ listed fixed k j = get_or fixed (k + 1 + j) 0
 
 abbrev pub size_at : List ℕ → ℕ → ℕ
 size_at fixed k = count_of (get_or fixed k 0)
+
+-- the words of the list at spot k
+abbrev pub words_at : List ℕ → ℕ → List ℕ
+words_at fixed k = take (size_at fixed k) (drop (k + 1) fixed)
 
 unfoldable pub in_list : List ℕ → ℕ → ℕ → Bool
 in_list fixed w k = ltb (first_at (λ j. eqb (listed fixed k j) w) 0 (size_at fixed k)) (size_at fixed k)

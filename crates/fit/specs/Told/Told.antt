@@ -1,18 +1,14 @@
 -- What the walk over a left side and a term tells, and what its table of first occurrences says.
-use Rattle.std.specs.Prelude.{ℕ, suc, ◌+◌, ◌-◌, ◌*◌, ◌≤◌, ◌<◌, ◌≡◌, Bool, true, false, ◌&&◌, ◌||◌, List, [], ◌∷◌, ◌++◌, eqb, leb, length, take, drop, get_or, set, replicate}
+use Rattle.std.specs.Prelude.{ℕ, suc, ◌+◌, ◌-◌, ◌*◌, ◌≤◌, ◌<◌, ◌≡◌, Bool, true, false, ◌&&◌, ◌||◌, List, [], ◌∷◌, ◌++◌, eqb, leb, length, take, drop, get_or, set, replicate, Option as StdOption, Some, None}
 use Rattle.std.proofs.Math.Option.{Option, none, some}
 use Rattle.term.specs.Word.{symbol, abstraction, variable, pattern, pick, count, kind_of, count_of, ident_of, InTable}
 use Rattle.term.specs.Row.{Row, nothing, node, width, words, ranks, nesting, Formed}
 use Rattle.term.specs.Renumber.{GoodList}
-use Rattle.term.specs.declared.renumber.Passed.{Passed}
-use Rattle.term.specs.declared.renumber.Passed.TheVariants as step
 use Rattle.term.specs.Part.{body_of, same_words, part_end}
 use Rattle.term.specs.Answer.{answered}
 use Rattle.book.specs.Rule.{ids_of, root_symbol}
 use Rattle.fit.specs.declared.fitting.First.{First}
 use Rattle.fit.specs.declared.rules.RuleMatch.{RuleMatch}
-use Rattle.fit.specs.declared.fitting.Both.{Both}
-use Rattle.fit.specs.declared.fitting.Both.TheVariants.{Done, Stuck}
 use Rattle.fit.specs.Left.{left_of, occurs}
 use Rattle.fit.specs.Fit.{Found, found, body_in, all_same}
 use Rattle.fit.specs.Front.{root_arguments, aside, matching_front}
@@ -71,10 +67,9 @@ pub record FirstIs (left term table : List ℕ) (x : ℕ) (first : First) : Type
   pub four : length first.ids ≡ 4
   pub few : first.k ≤ 4
 
-unfoldable pub FirstTold : List ℕ → List ℕ → List ℕ → ℕ → First → Type 0
-FirstTold left term table x first =
-    (first.there ≡ true → FirstIs left term table x first)
-    × (first.there ≡ false → (l : Found) → Knows left term table l → present x l ≡ false)
+unfoldable pub FirstTold : List ℕ → List ℕ → List ℕ → ℕ → StdOption First → Type 0
+FirstTold left term table x (Some first) = FirstIs left term table x first
+FirstTold left term table x None = (l : Found) → Knows left term table l → present x l ≡ false
 
 -- the table after a variable's first occurrence
 abbrev pub recorded : List ℕ → ℕ → ℕ → ℕ → ℕ → List ℕ
@@ -90,24 +85,28 @@ abbrev pub agreed_from : Found → Option Found → Option Found
 agreed_from l none = none
 agreed_from l (some k) = pick (all_same (l ++ k) k) (some k) none
 
-unfoldable pub FitTold : ℕ → ℕ → ℕ → ℕ → List ℕ → ℕ → List ℕ → ℕ → List ℕ → List ℕ → Both → Type 0
-FitTold vars d levels count left at term to table done (Done a b) =
+-- the offsets after a row of the left side and after its row of the term
+abbrev pub Offsets : Type 0
+Offsets = StdOption (ℕ × ℕ)
+
+unfoldable pub FitTold : ℕ → ℕ → ℕ → ℕ → List ℕ → ℕ → List ℕ → ℕ → List ℕ → List ℕ → Offsets → Type 0
+FitTold vars d levels count left at term to table done (Some (a, b)) =
     (p : Row) (after : List ℕ) (t : Row) (beyond : List ℕ) (l : Found)
     → LeftStands vars d levels count left at p after → TermStands count term to t beyond → Knows left term table l
     → (k : Found) × (agreed_from l (found d (left_of p) t) ≡ some k) × Knows left term done (l ++ k) × (a ≡ at + length (words p)) × (b ≡ to + length (words t))
-FitTold vars d levels count left at term to table done Stuck =
+FitTold vars d levels count left at term to table done None =
     (p : Row) (after : List ℕ) (t : Row) (beyond : List ℕ) (l : Found)
     → LeftStands vars d levels count left at p after → TermStands count term to t beyond → Knows left term table l
     → agreed_from l (found d (left_of p) t) ≡ none
 
 -- the same of one pattern variable, which asks for no level
-abbrev pub VariableTold : ℕ → ℕ → List ℕ → ℕ → List ℕ → ℕ → List ℕ → List ℕ → Both → Type 0
+abbrev pub VariableTold : ℕ → ℕ → List ℕ → ℕ → List ℕ → ℕ → List ℕ → List ℕ → Offsets → Type 0
 VariableTold vars d left at term to table done r = (levels : ℕ) → FitTold vars d levels 1 left at term to table done r
 
 -- the same once its list was read: the part has a body, and shares it with the first occurrence of its variable
-abbrev pub shared_ends : List ℕ → ℕ → List ℕ → ℕ → Bool → Both
-shared_ends left at term to true = Done (at + 1 + count_of (get_or left at 0)) (to + part_end (drop to term))
-shared_ends left at term to false = Stuck
+abbrev pub shared_ends : List ℕ → ℕ → List ℕ → ℕ → Bool → Offsets
+shared_ends left at term to true = Some (at + 1 + count_of (get_or left at 0), to + part_end (drop to term))
+shared_ends left at term to false = None
 
 pub record SharesTold (d : ℕ) (left : List ℕ) (at : ℕ) (term : List ℕ) (to : ℕ) (ys table done : List ℕ) (r : Bool) : Type 0 where
   pub inside : r ≡ true → part_end (drop to term) ≤ length (drop to term)
@@ -115,12 +114,12 @@ pub record SharesTold (d : ℕ) (left : List ℕ) (at : ℕ) (term : List ℕ) (
       → VariableTold vars d left at term to table done (shared_ends left at term to r)
 
 -- ---- the bodies of the variables, in order, as the table has them
--- the body of one variable in a lent slice, zeros after it; Stuck where there is no room for it
-unfoldable pub FirstWritten : List ℕ → List ℕ → List ℕ → ℕ → List ℕ → List ℕ → Passed → Type 0
-FirstWritten left term table x out done (step.Done n) =
+-- the body of one variable in a lent slice, zeros after it; none where there is no room for it
+unfoldable pub FirstWritten : List ℕ → List ℕ → List ℕ → ℕ → List ℕ → List ℕ → StdOption ℕ → Type 0
+FirstWritten left term table x out done (Some n) =
     (n ≤ length out) × (n ≤ length term)
     × ((l : Found) → Knows left term table l → present x l ≡ true → (n ≡ length (words (body_in l x))) × (done ≡ words (body_in l x) ++ replicate (length out - n) 0))
-FirstWritten left term table x out done step.Stuck = (l : Found) → Knows left term table l → present x l ≡ true → length out < length (words (body_in l x))
+FirstWritten left term table x out done None = (l : Found) → Knows left term table l → present x l ≡ true → length out < length (words (body_in l x))
 
 -- the bodies of all variables and their lengths, and whether there is room for them
 unfoldable pub BodiesTold : ℕ → List ℕ → List ℕ → List ℕ → ℕ → List ℕ → List ℕ → Bool → Type 0

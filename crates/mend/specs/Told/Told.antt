@@ -1,19 +1,14 @@
 -- What reading the rules and writing the lines tells.
-use Rattle.std.specs.Prelude.{ℕ, zero, suc, ◌≤◌, ◌*◌, ◌≡◌, Bool, false, List, [], ◌∷◌, ◌++◌, leb, eqb, length, take, replicate}
+use Rattle.std.specs.Prelude.{ℕ, zero, suc, ◌≤◌, ◌*◌, ◌≡◌, Bool, false, List, [], ◌∷◌, ◌++◌, leb, eqb, length, take, replicate, Result, Ok, Err}
+use Rattle.term.specs.declared.answer.Answer.{Answer}
 use Rattle.term.specs.declared.answer.Answer.TheVariants.{Done, Short}
 use Rattle.term.specs.Word.{pick}
 use Rattle.term.specs.Answer.{answered}
-use Rattle.book.specs.declared.accept.Accepted.TheVariants.{Sound}
 use Rattle.book.specs.Book.{together}
 use Rattle.text.specs.Given.{given_answer, given_left}
 use Rattle.text.specs.BookText.{book_text}
 use Rattle.text.specs.Mail.{Present, rules_present, bad_present, Mail, mail_is, bad_mail, mail_said}
 use Rattle.mend.specs.declared.kept.Kept.{Kept}
-use Rattle.mend.specs.declared.kept.Mailed.{Mailed}
-use Rattle.mend.specs.declared.kept.Mailed.TheVariants as mailed
-use Rattle.mend.specs.declared.repair.Repaired.{Repaired}
-use Rattle.mend.specs.declared.mail.Mail as declared
-use Rattle.mend.specs.declared.mail.Mail.TheVariants as mails
 use Rattle.mend.specs.Repair.{stays, kept_from, new_book, Note, dropped, kept, notes_text, was_text, repaired_text, repair_book_came, repair_book_gives}
 
 -- ---- old numbers of the rules that stay
@@ -48,9 +43,9 @@ pub record Sorted (o : Present) (book olds : List ℕ) (k : Kept) : Type 0 where
   pub few : 21 * k.present ≤ 65536
   pub many : k.rules ≤ 64
 
-abbrev pub MailedTold : Present → List ℕ → List ℕ → Mailed → Type 0
-MailedTold o book olds (mailed.Rules k) = Sorted o book olds k
-MailedTold o book olds (mailed.Bad line) = o ≡ bad_present line
+abbrev pub MailedTold : Present → List ℕ → List ℕ → Result Kept ℕ → Type 0
+MailedTold o book olds (Ok k) = Sorted o book olds k
+MailedTold o book olds (Err line) = o ≡ bad_present line
 
 -- ---- the whole text: the number stated, and the new book
 pub record Came (bs book olds : List ℕ) (stated : ℕ) (k : Kept) : Type 0 where
@@ -64,24 +59,29 @@ pub record Came (bs book olds : List ℕ) (stated : ℕ) (k : Kept) : Type 0 whe
   pub few : 21 * k.present ≤ 65536
   pub many : k.rules ≤ 64
 
-abbrev pub MailTold : List ℕ → List ℕ → List ℕ → declared.Mail → Type 0
-MailTold bs book olds (mails.Read stated k) = Came bs book olds stated k
-MailTold bs book olds (mails.Bad line) = mail_said bs ≡ bad_mail line
+abbrev pub MailTold : List ℕ → List ℕ → List ℕ → Result (ℕ × Kept) ℕ → Type 0
+MailTold bs book olds (Ok (stated, k)) = Came bs book olds stated k
+MailTold bs book olds (Err line) = mail_said bs ≡ bad_mail line
+
+-- ---- the answer: 0 with so many bytes, or the refusal
+abbrev pub answer_of : Result ℕ Answer → Answer
+answer_of (Ok n) = Done
+answer_of (Err answer) = answer
 
 -- ---- what is written of a new book, the number stated, the rules present and the old numbers of those that stay
 abbrev pub written_text : (book : List ℕ) (stated present : ℕ) (olds : List ℕ) → List ℕ
 written_text book stated present olds = book_text book ++ (notes_text (notes_by 0 0 present olds) ++ was_text stated present)
 
-pub record WrittenTold (book : List ℕ) (stated present : ℕ) (olds : List ℕ) (room : ℕ) (done : List ℕ) (r : Repaired) : Type 0 where
-  pub answer : r.answer ≡ pick (leb (length (book_text book)) 65536) (given_answer room (written_text book stated present olds) Sound) Short
-  pub left : done ≡ pick (leb (length (book_text book)) 65536) (given_left room (written_text book stated present olds) Sound) (replicate room 0)
-  pub size : r.answer ≡ Done → r.length ≡ length (written_text book stated present olds)
+pub record WrittenTold (book : List ℕ) (stated present : ℕ) (olds : List ℕ) (room : ℕ) (done : List ℕ) (r : Result ℕ Answer) : Type 0 where
+  pub answer : answer_of r ≡ pick (leb (length (book_text book)) 65536) (given_answer room (written_text book stated present olds) (Ok tt)) Short
+  pub left : done ≡ pick (leb (length (book_text book)) 65536) (given_left room (written_text book stated present olds) (Ok tt)) (replicate room 0)
+  pub size : answer_of r ≡ Done → r ≡ Ok (length (written_text book stated present olds))
 
 -- ---- all that comes back, and the length of the text where one was written
 abbrev pub length_of : Mail → ℕ
 length_of (mail_is stated rules) = length (repaired_text stated rules)
 length_of (bad_mail line) = 0
 
-pub record RepairTold (bs : List ℕ) (room : ℕ) (done : List ℕ) (r : Repaired) : Type 0 where
-  pub came : repair_book_came (answered r.answer) done ≡ repair_book_gives bs room
-  pub size : r.answer ≡ Done → r.length ≡ length_of (mail_said bs)
+pub record RepairTold (bs : List ℕ) (room : ℕ) (done : List ℕ) (r : Result ℕ Answer) : Type 0 where
+  pub came : repair_book_came (answered (answer_of r)) done ≡ repair_book_gives bs room
+  pub size : answer_of r ≡ Done → r ≡ Ok (length_of (mail_said bs))

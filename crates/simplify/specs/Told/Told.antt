@@ -1,34 +1,29 @@
 -- What the functions of the program tell of the bytes that were read.
-use Rattle.std.specs.Prelude.{ℕ, ◌+◌, ◌≤◌, ◌<◌, ◌≡◌, false, List, length, get_or, take, drop}
+use Rattle.std.specs.Prelude.{ℕ, ◌+◌, ◌≤◌, ◌<◌, ◌≡◌, List, length, get_or, take, drop, Option, Some, None, is_none, Result, Ok, Err}
 use Rattle.std.proofs.Math.Option.{none, some}
 use Rattle.std.proofs.lemmas.List.Edits.{sets}
 use Rattle.text.specs.Number.{Read}
 use Rattle.text.specs.BookText.{due_after}
 use Rattle.text.specs.Refusal.{refused}
-use Rattle.text.specs.declared.line.Line.{Line}
-use Rattle.text.specs.declared.line.Line.TheVariants as lines
 use Rattle.tree.specs.Layout.{tree_words}
 use Rattle.compiler.specs.Compiled.{compile_answer}
 use Rattle.steps.specs.Simplify.{simplify}
-use Rattle.simplify.specs.declared.input.Judged.{Judged}
-use Rattle.simplify.specs.declared.input.Judged.TheVariants as judged
-use Rattle.simplify.specs.declared.input.Input.{Input}
-use Rattle.simplify.specs.declared.input.Input.TheVariants as input
 use Rattle.simplify.specs.declared.first.First.{First}
+use Rattle.simplify.specs.declared.first.Ready.{Ready}
 use Rattle.simplify.specs.declared.next.Next.{Next}
 use Rattle.simplify.specs.File.{term_line, Terms, terms_are, bad_term, terms_read, file_is, bad_file, file_said}
 use Rattle.simplify.specs.Printed.{term_block, file_answer, file_book, file_terms, book_block, first_block}
 
 -- a `term=` line at the offset `at` of a text, whose words went into a slice
-abbrev pub TermLineTold : List ℕ → ℕ → List ℕ → List ℕ → Line → Type 0
-TermLineTold bs at out done (lines.Words n next) =
+abbrev pub TermLineTold : List ℕ → ℕ → List ℕ → List ℕ → Option (ℕ × ℕ) → Type 0
+TermLineTold bs at out done (Some (n, next)) =
     (ws : List ℕ) × (term_line (drop at bs) ≡ some (ws, drop next bs)) × (length ws ≡ n) × (done ≡ sets out 0 ws) × (at < next) × (next ≤ length bs) × (n ≤ 4096)
-TermLineTold bs at out done lines.Bad = term_line (drop at bs) ≡ none
+TermLineTold bs at out done None = term_line (drop at bs) ≡ none
 
 -- every line up to the end is a `term=` line, or the first that is not
-abbrev pub TermsTold : Terms → ℕ → Judged → Type 0
-TermsTold read last judged.Good = (terms : List (List ℕ)) × (read ≡ terms_are terms)
-TermsTold read last (judged.Bad line) = (read ≡ bad_term line) × (line ≤ last)
+abbrev pub TermsTold : Terms → ℕ → Result Unit ℕ → Type 0
+TermsTold read last (Ok tt) = (terms : List (List ℕ)) × (read ≡ terms_are terms)
+TermsTold read last (Err line) = (read ≡ bad_term line) × (line ≤ last)
 
 -- the words of a file's book lie in front, and its terms stand from `at` on
 pub record FileRead (bs done : List ℕ) (n at : ℕ) : Type 0 where
@@ -43,43 +38,41 @@ pub record FileRead (bs done : List ℕ) (n at : ℕ) : Type 0 where
   pub inside : at ≤ length bs
   pub short : length bs ≤ 65536
 
-abbrev pub InputTold : List ℕ → List ℕ → Input → Type 0
-InputTold bs done (input.Words n at) = FileRead bs done n at
-InputTold bs done (input.Bad line) = (file_said bs ≡ bad_file line) × (line ≤ 65900)
+abbrev pub InputTold : List ℕ → List ℕ → Result (ℕ × ℕ) ℕ → Type 0
+InputTold bs done (Ok (n, at)) = FileRead bs done n at
+InputTold bs done (Err line) = (file_said bs ≡ bad_file line) × (line ≤ 65900)
 
 -- a block went into the front of a slice
 abbrev pub BlockTold : List ℕ → List ℕ → List ℕ → ℕ → Type 0
 BlockTold block out done n = (n ≡ length block) × (done ≡ sets out 0 block) × (n ≤ 65536)
 
 -- ---- the first block
--- the tree of an accepted book lies in front, and the terms stand where they stood, the first with the number 0
-pub record HeadReady (book tree : List ℕ) (at : ℕ) (r : First) : Type 0 where
-  pub book_size : r.book ≡ length book
-  pub tree_words : take r.tree tree ≡ tree_words book
-  pub tree_fits : r.tree ≤ length tree
-  pub where_terms : r.at ≡ at
-  pub from_zero : r.number ≡ 0
+-- the tree of an accepted book lies in front, and the terms stand where they stood
+pub record HeadReady (book tree : List ℕ) (at : ℕ) (k : Ready) : Type 0 where
+  pub book_size : k.book ≡ length book
+  pub tree_words : take k.tree tree ≡ tree_words book
+  pub tree_fits : k.tree ≤ length tree
+  pub where_terms : k.at ≡ at
 
 pub record HeadTold (book : List ℕ) (at : ℕ) (tree out done : List ℕ) (r : First) : Type 0 where
   pub block : BlockTold (book_block book (compile_answer 16384 book)) out done r.length
-  pub refuses : r.refused ≡ refused (compile_answer 16384 book)
-  pub ready : r.refused ≡ false → HeadReady book tree at r
+  pub refuses : is_none r.ready ≡ refused (compile_answer 16384 book)
+  pub ready : (k : Ready) → r.ready ≡ Some k → HeadReady book tree at k
 
--- what is ready for the terms of a file that is not refused: its book, the book's tree, and where its terms stand, the first with the number 0
-pub record Ready (bs book tree : List ℕ) (r : First) : Type 0 where
-  pub book_words : take r.book book ≡ file_book (file_said bs)
-  pub book_fits : r.book ≤ length book
-  pub tree_words : take r.tree tree ≡ tree_words (file_book (file_said bs))
-  pub tree_fits : r.tree ≤ length tree
-  pub terms : terms_read (due_after (file_book (file_said bs))) (drop r.at bs) ≡ terms_are (file_terms (file_said bs))
-  pub inside : r.at ≤ length bs
+-- what is ready for the terms of a file that is not refused: its book, the book's tree, and where its terms stand
+pub record FileReady (bs book tree : List ℕ) (k : Ready) : Type 0 where
+  pub book_words : take k.book book ≡ file_book (file_said bs)
+  pub book_fits : k.book ≤ length book
+  pub tree_words : take k.tree tree ≡ tree_words (file_book (file_said bs))
+  pub tree_fits : k.tree ≤ length tree
+  pub terms : terms_read (due_after (file_book (file_said bs))) (drop k.at bs) ≡ terms_are (file_terms (file_said bs))
+  pub inside : k.at ≤ length bs
   pub short : length bs ≤ 65536
-  pub from_zero : r.number ≡ 0
 
 pub record FirstTold (bs book tree out done : List ℕ) (r : First) : Type 0 where
   pub block : BlockTold (first_block (file_said bs)) out done r.length
-  pub refuses : r.refused ≡ refused (file_answer (file_said bs))
-  pub ready : r.refused ≡ false → Ready bs book tree r
+  pub refuses : is_none r.ready ≡ refused (file_answer (file_said bs))
+  pub ready : (k : Ready) → r.ready ≡ Some k → FileReady bs book tree k
 
 -- ---- a term's block
 -- the `term=` line at the offset `at`, if one stands there, with its number: its block, and then the next line has the next number

@@ -1,15 +1,11 @@
 -- What a walk over a row of trees in words tells, tree after tree, one call a level.
-use Rattle.std.specs.Prelude.{ℕ, ◌+◌, ◌-◌, ◌≤◌, ◌≡◌, Bool, true, false, ◌&&◌, List, ◌++◌, leb, ltb, eqb, length, drop, get_or}
+use Rattle.std.specs.Prelude.{ℕ, ◌+◌, ◌-◌, ◌≤◌, ◌≡◌, Bool, true, false, ◌&&◌, List, ◌++◌, leb, ltb, eqb, length, drop, get_or, Option as StdOption, Some, None}
 use Rattle.std.proofs.Math.Option.{Option, none, some}
 use Rattle.std.proofs.lemmas.List.Edits.{sets}
 use Rattle.term.specs.declared.image.Way.{Way}
 use Rattle.term.specs.declared.image.Way.TheVariants.{ToBody, ToTerm}
-use Rattle.term.specs.declared.image.Image.{Image}
-use Rattle.term.specs.declared.image.Image.TheVariants.{Word, None}
 use Rattle.term.specs.declared.same.Met.{Met}
 use Rattle.term.specs.declared.same.Met.TheVariants.{Both, Neither, Apart}
-use Rattle.term.specs.declared.renumber.Passed.{Passed}
-use Rattle.term.specs.declared.renumber.Passed.TheVariants.{Done, Stuck}
 use Rattle.term.specs.Word.{Head, pick, rank, term_rank, kind_of, ident_of, head_of, word}
 use Rattle.term.specs.Check.{rank_or}
 use Rattle.term.specs.Row.{Row, width, words, ranks, nesting, Formed}
@@ -21,15 +17,15 @@ image ToBody d ys = id_body d ys
 image ToTerm d ys = id_term_within d ys
 
 -- a word's image, where it is a term's word and its id has one
-unfoldable pub image_of : (ℕ → ℕ → ℕ) → ℕ → Option Head → Image
+unfoldable pub image_of : (ℕ → ℕ → ℕ) → ℕ → Option Head → StdOption ℕ
 image_of m e none = None
-image_of m e (some h) = pick (leb (rank h) term_rank && named_head m e h) (Word (word (renumber_head m e h))) None
+image_of m e (some h) = pick (leb (rank h) term_rank && named_head m e h) (Some (word (renumber_head m e h))) None
 
 -- two words have images, and the same
-unfoldable pub same_image : Image → Image → Bool
+unfoldable pub same_image : StdOption ℕ → StdOption ℕ → Bool
 same_image None j = false
-same_image (Word v) None = false
-same_image (Word v) (Word u) = eqb v u
+same_image (Some v) None = false
+same_image (Some v) (Some u) = eqb v u
 
 -- a word is a variable i with e < i ≤ e+d
 unfoldable pub inner_word : ℕ → ℕ → ℕ → Bool
@@ -57,9 +53,9 @@ pub record Stands (levels count : ℕ) (ws : List ℕ) (at : ℕ) (f : Row) (aft
   pub wide : width f ≡ count
   pub same : drop at ws ≡ words f ++ after
 
--- a row's images are written at the same offset; Stuck where no row stands there, or one of its ids has no image
-unfoldable pub RowTold : (ℕ → ℕ → ℕ) → ℕ → ℕ → ℕ → List ℕ → ℕ → List ℕ → List ℕ → Passed → Type 0
-RowTold m e levels count ws at out done (Done a) =
+-- a row's images are written at the same offset, and where it ends; none where no row stands there, or one of its ids has no image
+unfoldable pub RowTold : (ℕ → ℕ → ℕ) → ℕ → ℕ → ℕ → List ℕ → ℕ → List ℕ → List ℕ → StdOption ℕ → Type 0
+RowTold m e levels count ws at out done (Some a) =
     (f : Row) × (after : List ℕ) × Stands levels count ws at f after × (named m e f ≡ true) × (a ≡ at + length (words f)) × (done ≡ sets out at (words (renumber m e f)))
-RowTold m e levels count ws at out done Stuck =
+RowTold m e levels count ws at out done None =
     (f : Row) (after : List ℕ) → Stands levels count ws at f after → named m e f ≡ false

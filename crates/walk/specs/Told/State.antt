@@ -1,5 +1,5 @@
 -- What the walk's state in memory stands for: the places uncovered so far, as parts of the words.
-use Rattle.std.specs.Prelude.{ℕ, zero, suc, ◌+◌, ◌-◌, ◌≤◌, ◌<◌, ◌≡◌, Bool, true, false, List, [], ◌∷◌, ◌++◌, length, get_or, drop, replicate, eqb, leb}
+use Rattle.std.specs.Prelude.{ℕ, zero, suc, ◌+◌, ◌-◌, ◌≤◌, ◌<◌, ◌≡◌, Bool, true, false, List, [], ◌∷◌, ◌++◌, length, get_or, drop, replicate, leb, Option as StdOption, Some, None, unwrap_or}
 use Rattle.std.proofs.Math.Option.{Option, none, some}
 use Rattle.term.specs.Word.{pick}
 use Rattle.term.specs.Row.{Row, words, nesting}
@@ -7,30 +7,26 @@ use Rattle.term.specs.Told.Walk.{Stands}
 use Rattle.term.specs.Part.{part, body_of}
 use Rattle.term.specs.declared.answer.Answer.{Answer}
 use Rattle.term.specs.declared.answer.Answer.TheVariants.{Done, Short}
-use Rattle.term.specs.declared.renumber.Passed.{Passed}
-use Rattle.term.specs.declared.renumber.Passed.TheVariants as step
 use Rattle.fit.specs.Match.{body_list, fitted, match_answer, match_words, match_lengths}
 use Rattle.tree.specs.Tree.{LeafVariable, LeafNode}
 use Rattle.tree.specs.Find.{PartAt, root_count, root_part, enter_part, body_or, leaf_body, leaf_fitting, total}
 use Rattle.walk.specs.Walk.{Walked, NoneFits, RuleFits, DamagedAt, Next, Ends, Goes, unless, go_to, variables_in, sound_variables, case_next, switch_node, closed_node, same_node, leaf_node, next_at, walk_from, visits_from, no_book}
 use Rattle.walk.specs.ByTree.{walked_match, walked_rule, MatchTreeOutcome, rule_gives}
 use Rattle.walk.specs.declared.state.Walk.{Walk}
+use Rattle.walk.specs.declared.state.Stands as state
+use Rattle.walk.specs.declared.state.Stands.TheVariants as stands
 use Rattle.walk.specs.declared.by_tree.TreeMatch.{TreeMatch}
 use Rattle.walk.specs.declared.decide.Decision.{Decision}
 use Rattle.walk.specs.declared.decide.Decision.TheVariants.{Enter, Go, Stop}
 
-abbrev pub stopped_as : Walk → ℕ → Walk
-stopped_as s stands = record { offsets = s.offsets; depths = s.depths; entered = s.entered; count = s.count; at = s.at; stands = stands; visits = s.visits }
+abbrev pub stopped_as : Walk → state.Stands → Walk
+stopped_as s how = record { offsets = s.offsets; depths = s.depths; entered = s.entered; count = s.count; at = s.at; stands = how; visits = s.visits }
 
 abbrev pub moved_to : Walk → ℕ → Walk
 moved_to s to = record { offsets = s.offsets; depths = s.depths; entered = s.entered; count = s.count; at = to; stands = s.stands; visits = s.visits }
 
--- the state that goes on and lends these fields
-abbrev pub seen : List ℕ → List ℕ → List Bool → ℕ → ℕ → Walk
-seen offsets depths entered count at = record { offsets = offsets; depths = depths; entered = entered; count = count; at = at; stands = 0; visits = 0 }
-
 abbrev pub entry_at : Walk
-entry_at = record { offsets = replicate 4096 0; depths = replicate 4096 0; entered = replicate 4096 false; count = 1; at = 0; stands = 0; visits = 0 }
+entry_at = record { offsets = replicate 4096 0; depths = replicate 4096 0; entered = replicate 4096 false; count = 1; at = 0; stands = stands.Going; visits = 0 }
 
 -- the part that begins at an offset of the words
 unfoldable pub part_from : List ℕ → ℕ → Row
@@ -90,11 +86,11 @@ pub record LeafAt (table term : List ℕ) (next : (LeafNode → Bool) → Next) 
   pub leaf : LeafSound table term s
   pub ends : (fits : LeafNode → Bool) → next fits ≡ unless (fits (leaf_in table s.at)) s.at (Ends (leaf_rule table (places_of term s) s.at))
 
-abbrev pub Said : List ℕ → List ℕ → ((LeafNode → Bool) → Next) → Walk → ℕ → Type 0
-Said table term next s zero = (fits : LeafNode → Bool) → next fits ≡ Goes s.at (places_of term s)
-Said table term next s (suc zero) = (fits : LeafNode → Bool) → next fits ≡ Ends NoneFits
-Said table term next s (suc (suc zero)) = LeafAt table term next s
-Said table term next s (suc (suc (suc n))) = (fits : LeafNode → Bool) → next fits ≡ Ends (DamagedAt s.at)
+abbrev pub Said : List ℕ → List ℕ → ((LeafNode → Bool) → Next) → Walk → state.Stands → Type 0
+Said table term next s stands.Going = (fits : LeafNode → Bool) → next fits ≡ Goes s.at (places_of term s)
+Said table term next s stands.NoRule = (fits : LeafNode → Bool) → next fits ≡ Ends NoneFits
+Said table term next s stands.Rule = LeafAt table term next s
+Said table term next s stands.Damaged = (fits : LeafNode → Bool) → next fits ≡ Ends (DamagedAt s.at)
 
 -- the state after a place was entered
 pub record EnterTold (term : List ℕ) (s : Walk) (n to : ℕ) (r : Walk) : Type 0 where
@@ -108,7 +104,11 @@ pub record EnterTold (term : List ℕ) (s : Walk) (n to : ℕ) (r : Walk) : Type
 unfoldable pub Decided : List ℕ → List ℕ → ((LeafNode → Bool) → Next) → Walk → Decision → Type 0
 Decided table term next s (Enter n to) = (n < s.count) × (get_or s.entered n false ≡ false) × ((fits : LeafNode → Bool) → next fits ≡ Goes to (enter_part n (places_of term s)))
 Decided table term next s (Go to) = (fits : LeafNode → Bool) → next fits ≡ Goes to (places_of term s)
-Decided table term next s (Stop n) = Said table term next s n
+Decided table term next s (Stop how) = Said table term next s how
+
+-- what is decided where none is a damaged node
+abbrev pub or_damaged : StdOption Decision → Decision
+or_damaged d = unwrap_or d (Stop stands.Damaged)
 
 abbrev pub NodeDecided : List ℕ → List ℕ → Walk → Decision → Type 0
 NodeDecided table term s d = Decided table term (λ fits. next_at fits table s.at (places_of term s)) s d
@@ -133,33 +133,16 @@ abbrev pub CaseTaken : List ℕ → ℕ → ℕ → Bool → ℕ → Decision �
 CaseTaken table at n entered to d = (term : List ℕ) (s : Walk) → Parted term → Holds term s → s.at ≡ at → n < s.count → get_or s.entered n false ≡ entered
     → Decided table term (λ fits. case_next table s.at n (places_of term s) 0 (some to)) s d
 
--- a node, for every state that lends these fields
-abbrev pub SwitchTold : List ℕ → List ℕ → List ℕ → List Bool → ℕ → ℕ → Decision → Type 0
-SwitchTold table term offsets entered count at d = (depths : List ℕ) → Holds term (seen offsets depths entered count at) → SwitchDecided table term (seen offsets depths entered count at) d
-
-abbrev pub ClosedTold : List ℕ → List ℕ → List ℕ → List ℕ → ℕ → ℕ → Decision → Type 0
-ClosedTold table term offsets depths count at d = (entered : List Bool) → Holds term (seen offsets depths entered count at) → ClosedDecided table term (seen offsets depths entered count at) d
-
-abbrev pub SameTold : List ℕ → List ℕ → List ℕ → List ℕ → ℕ → ℕ → Decision → Type 0
-SameTold table term offsets depths count at d = (entered : List Bool) → Holds term (seen offsets depths entered count at) → SameDecided table term (seen offsets depths entered count at) d
-
-abbrev pub LeafTold : List ℕ → List ℕ → List ℕ → List ℕ → ℕ → ℕ → Decision → Type 0
-LeafTold table term offsets depths count at d = (entered : List Bool) → Holds term (seen offsets depths entered count at) → LeafDecided table term (seen offsets depths entered count at) d
-
-abbrev pub SoundTold : List ℕ → List ℕ → List ℕ → List ℕ → ℕ → ℕ → ℕ → Bool → Type 0
-SoundTold table term offsets depths count from n r = (entered : List Bool) → Holds term (seen offsets depths entered count from)
-    → r ≡ sound_leaf (places_of term (seen offsets depths entered count from)) (variables_in n (drop from table))
-
 -- ---- how a walk stands: it goes on from here, or it ended
 pub record LeafFound (table term : List ℕ) (walked : (LeafNode → Bool) → Walked) (s : Walk) : Type 0 where
   pub leaf : LeafSound table term s
   pub ends : (fits : LeafNode → Bool) → walked fits ≡ pick (fits (leaf_in table s.at)) (leaf_rule table (places_of term s) s.at) (DamagedAt s.at)
 
-abbrev pub Stood : List ℕ → List ℕ → ((LeafNode → Bool) → Walked) → Walk → ℕ → Type 0
-Stood table term walked s zero = (fits : LeafNode → Bool) → walked fits ≡ walk_from fits table s.at (places_of term s)
-Stood table term walked s (suc zero) = (fits : LeafNode → Bool) → walked fits ≡ NoneFits
-Stood table term walked s (suc (suc zero)) = LeafFound table term walked s
-Stood table term walked s (suc (suc (suc n))) = (fits : LeafNode → Bool) → walked fits ≡ DamagedAt s.at
+abbrev pub Stood : List ℕ → List ℕ → ((LeafNode → Bool) → Walked) → Walk → state.Stands → Type 0
+Stood table term walked s stands.Going = (fits : LeafNode → Bool) → walked fits ≡ walk_from fits table s.at (places_of term s)
+Stood table term walked s stands.NoRule = (fits : LeafNode → Bool) → walked fits ≡ NoneFits
+Stood table term walked s stands.Rule = LeafFound table term walked s
+Stood table term walked s stands.Damaged = (fits : LeafNode → Bool) → walked fits ≡ DamagedAt s.at
 
 unfoldable pub Standing : List ℕ → List ℕ → ((LeafNode → Bool) → Walked) → Walk → Type 0
 Standing table term walked s = Holds term s × Stood table term walked s s.stands
@@ -168,12 +151,19 @@ Standing table term walked s = Holds term s × Stood table term walked s s.stand
 abbrev pub visits_here : List ℕ → List ℕ → ℕ
 visits_here table term = visits_from table 0 (root_part (part_from term 0))
 
+-- whether a walk that stands so goes on
+abbrev pub goes_on : state.Stands → Bool
+goes_on stands.Going = true
+goes_on stands.NoRule = false
+goes_on stands.Rule = false
+goes_on stands.Damaged = false
+
 unfoldable pub Visited : List ℕ → List ℕ → Walk → Type 0
-Visited table term s = s.visits + pick (eqb s.stands 0) (visits_from table s.at (places_of term s)) 0 ≡ visits_here table term
+Visited table term s = s.visits + pick (goes_on s.stands) (visits_from table s.at (places_of term s)) 0 ≡ visits_here table term
 
 -- the walk over the part that the words begin with, once it ended
 unfoldable pub WalkTold : List ℕ → List ℕ → Walk → Type 0
-WalkTold table term r = Standing table term (λ fits. walk_from fits table 0 (root_part (part_from term 0))) r × (r.stands ≡ 0 → ⊥) × (r.visits ≡ visits_here table term)
+WalkTold table term r = Standing table term (λ fits. walk_from fits table 0 (root_part (part_from term 0))) r × (r.stands ≡ stands.Going → ⊥) × (r.visits ≡ visits_here table term)
 
 -- the same where no book is given, and what it gives in a room for bodies
 abbrev pub walked_here : List ℕ → List ℕ → Walked
@@ -186,11 +176,11 @@ walked_gives room w visits = rule_gives room (walked_match w) (walked_rule room 
 abbrev pub FindsNone : Answer → ℕ → TreeMatch → Type 0
 FindsNone a visits r = (r.answer ≡ a) × (r.rule ≡ 0) × (r.aside ≡ 0) × (r.visits ≡ visits)
 
--- ---- the body of a part in a lent slice, zeros after it; Stuck where there is no room for it
-unfoldable pub PartWritten : ℕ → List ℕ → List ℕ → List ℕ → List ℕ → Passed → Type 0
-PartWritten d ys ws out done (step.Done n) =
+-- ---- the body of a part in a lent slice, zeros after it; none where there is no room for it
+unfoldable pub PartWritten : ℕ → List ℕ → List ℕ → List ℕ → List ℕ → StdOption ℕ → Type 0
+PartWritten d ys ws out done (Some n) =
     (b : Row) × (body_of d ys ws ≡ some b) × (n ≡ length (words b)) × (n ≤ length out) × (n ≤ length ws) × (done ≡ words b ++ replicate (length out - n) 0)
-PartWritten d ys ws out done step.Stuck = (b : Row) → body_of d ys ws ≡ some b → length out < length (words b)
+PartWritten d ys ws out done None = (b : Row) → body_of d ys ws ≡ some b → length out < length (words b)
 
 -- the bodies of a Leaf: true where they have room
 unfoldable pub LeafWritten : List ℕ → List ℕ → Walk → ℕ → List ℕ → List ℕ → Bool → Type 0

@@ -1,14 +1,12 @@
 -- What a walk with a book answers and leaves. "Where a book is given too, a Leaf whose rule, n or counts don't fit it is damaged", and one with any other
 -- number set aside than what the root of the part has more than that of the left side.
-use Rattle.std.specs.Prelude.{ℕ, ◌+◌, ◌-◌, ◌≤◌, ◌≡◌, Bool, true, false, List, ◌++◌, eqb, length, get_or, drop, replicate}
-use Rattle.std.proofs.Math.Option.{Option, none, some}
+use Rattle.std.specs.Prelude.{ℕ, ◌+◌, ◌-◌, ◌≤◌, ◌≡◌, Bool, true, false, List, ◌++◌, eqb, length, get_or, drop, replicate, Option, None, Some, Result, Ok, Err}
+use Rattle.std.proofs.Math.Option as maths
 use Rattle.term.specs.Row.{Row}
 use Rattle.fit.specs.Match.{body_list, length_list}
 use Rattle.tree.specs.Tree.{LeafVariable, counts_of, LeafNode}
 use Rattle.walk.specs.Walk.{Walked, NoneFits, RuleFits, DamagedAt, variables_in, leaf_read, is_word, walk, visits, counts_fit, book_fits}
 use Rattle.walk.specs.Told.State.{part_from}
-use Rattle.walk.specs.declared.with_book.BookMatch.{BookMatch}
-use Rattle.walk.specs.declared.with_book.BookMatch.TheVariants.{None, Rule, Damaged}
 
 -- the walk with a book over the part that the words begin with
 abbrev pub book_walk : List ℕ → List ℕ → List ℕ → Walked
@@ -19,14 +17,14 @@ abbrev pub book_visits : List ℕ → List ℕ → ℕ
 book_visits table ws = visits table (part_from ws 0)
 
 -- whether the counts of variables that were read are those of a left side, from a variable on
-abbrev pub counts_in : List ℕ → ℕ → Option (List LeafVariable) → Bool
-counts_in left x none = false
-counts_in left x (some vs) = counts_fit left x (counts_of vs)
+abbrev pub counts_in : List ℕ → ℕ → maths.Option (List LeafVariable) → Bool
+counts_in left x maths.none = false
+counts_in left x (maths.some vs) = counts_fit left x (counts_of vs)
 
 -- whether a Leaf that was read fits the book, by the root's count
-abbrev pub read_fits : List ℕ → ℕ → Option LeafNode → Bool
-read_fits book a none = false
-read_fits book a (some leaf) = book_fits book a leaf
+abbrev pub read_fits : List ℕ → ℕ → maths.Option LeafNode → Bool
+read_fits book a maths.none = false
+read_fits book a (maths.some leaf) = book_fits book a leaf
 
 -- whether the Leaf at an address fits the book, by the root's count
 unfoldable pub leaf_fits : List ℕ → ℕ → List ℕ → ℕ → Bool
@@ -39,9 +37,9 @@ SkipTold table w true = (fits : ℕ → LeafNode → Bool) (t : Row) → ((v : �
 SkipTold table w false = Unit {0}
 
 -- 16 bodies of at most 4,096 words always have room in 65,536 words: the bodies in variable order and their lengths, zeros after them
-unfoldable pub BookWalked : Walked → BookMatch → List ℕ → List ℕ → Type 0
-BookWalked NoneFits r bodies lengths = (r ≡ None) × (bodies ≡ replicate 65536 0) × (lengths ≡ replicate 16 0)
+unfoldable pub BookWalked : Walked → Result (Option ℕ) ℕ → List ℕ → List ℕ → Type 0
+BookWalked NoneFits r bodies lengths = (r ≡ Ok None) × (bodies ≡ replicate 65536 0) × (lengths ≡ replicate 16 0)
 BookWalked (RuleFits f n) r bodies lengths =
-    (r ≡ Rule f.number) × (bodies ≡ body_list f.bodies 0 n ++ replicate (65536 - length (body_list f.bodies 0 n)) 0)
+    (r ≡ Ok (Some f.number)) × (bodies ≡ body_list f.bodies 0 n ++ replicate (65536 - length (body_list f.bodies 0 n)) 0)
     × (lengths ≡ length_list f.bodies 0 n ++ replicate (16 - n) 0)
-BookWalked (DamagedAt at) r bodies lengths = (r ≡ Damaged at) × (bodies ≡ replicate 65536 0) × (lengths ≡ replicate 16 0)
+BookWalked (DamagedAt at) r bodies lengths = (r ≡ Err at) × (bodies ≡ replicate 65536 0) × (lengths ≡ replicate 16 0)

@@ -17,9 +17,9 @@ took a k n xs ys within fits =
 pub loop-n-preserved : goal.loop-n-preserved
 loop-n-preserved g c =
     let n = c.loop-n.n in
-    let more = c.in-Bytes.more in
+    let more = c.in_ok-more.more in
     let text = c.loop-n.text in
-    let part = c.read_some.new.text in
+    let part = c.read.new.buf in
     let within = c.loop-n.invariant.0 in
     let fits : more ≤ length part = search rules in
-    (search rules, search rules, subst (Consumes _ _) (took n (length text - n) more text part within fits) (Consumes-trans _ _ _ _ _ c.loop-n.invariant.2 c.in-Bytes.ensures.bytes.0))
+    (search rules, search rules, subst (Consumes _ _) (took n (length text - n) more text part within fits) (Consumes-trans _ _ _ _ _ c.loop-n.invariant.2 c.in_ok-more.ensures.bytes.0))
