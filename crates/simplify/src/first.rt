@@ -12,6 +12,7 @@ use text::refusal::{FIRST_REFUSAL, write_refusal};
 use tree::node::MOST_TREE;
 
 // What stands ready for the terms: so many words of the book and of its tree, and the offset of the first term.
+// Numbers beside the lent arrays, since there is no heap.
 #[derive(Clone, Copy)]
 pub struct Ready {
     pub book: usize,
