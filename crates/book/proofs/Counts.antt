@@ -1,13 +1,13 @@
 -- The searches over the words of a side, as the definitions go over them word by word.
-use mathlib.Core.Path.{◌≡◌, refl, sym, ap, ◌∙◌}
+use mathlib.Core.Path.{◌≡◌, refl, sym, ◌∙◌}
 use mathlib.Core.Bool.{Bool, true, false, ◌&&◌}
-use mathlib.Core.List.{List, [], ◌∷◌, ◌++◌}
-use Rattle.std.specs.List.{list_all, find, range_with_len}
+use mathlib.Core.List.{List, [], ◌∷◌}
+use Rattle.std.specs.List.{list_all, find}
 use Rattle.std.proofs.Common.{Option, Some, None, cond}
-use Rattle.std.proofs.lemmas.List.Folds.{list_all-append}
-use Prim.Native.Nat.{ℕ, zero, suc, ◌+◌}
+use Prim.Native.Nat.{ℕ, zero, suc, ◌+◌, ◌-◌}
 use native.Mathlib.Omega.{arith}
-use lib.Dec.{leb, ltb, eqb}
+use lib.Dec.{ltb, eqb}
+use borrow.Author.Tests.{le-leb, lt-leb}
 use Rattle.term.specs.Word.{pick, kind_of, count_of, ident_of}
 use Rattle.book.specs.Rule.{counted, one_count, all_occur, no_other}
 
@@ -41,22 +41,22 @@ unfolding no_other
 no_other_all vars [] = refl
 no_other_all vars (w ∷ ws) = rw (← no_other_all vars ws) (one_step_lem (eqb (kind_of w) 3) _ _)
 
--- ---- each variable
-range_more : (a n : ℕ) → range_with_len a (suc n) ≡ range_with_len a n ++ (a + n) ∷ []
-range_more a zero = let z : a + 0 ≡ a = omega arith in rw z
-range_more a (suc n) = let z : a + suc n ≡ a + 1 + n = omega arith in rw (z, range_more (a + 1) n)
+-- ---- each variable, from the last down
+module _ (vars : ℕ) (left : List ℕ) where
+  pub occur_absent : (x : ℕ) → all_occur vars left ≡ all_occur x left → (x ≡ 0 → ⊥) → counted (x - 1) left ≡ 0 → false ≡ all_occur vars left
+  unfolding all_occur
+  occur_absent zero rest z e = absurd (z refl)
+  occur_absent (suc x) rest z e =
+      let p : suc x - 1 ≡ x = omega arith in
+      sym (rest ∙ rw (lt-leb 1 (counted x left) (omega (arith, rw p at e))))
 
-last_first : (a b : Bool) → a && b ≡ b && (a && true)
-last_first true true = refl
-last_first true false = refl
-last_first false true = refl
-last_first false false = refl
+  pub occur_next : (x : ℕ) → all_occur vars left ≡ all_occur x left → (x ≡ 0 → ⊥) → (counted (x - 1) left ≡ 0 → ⊥) → all_occur vars left ≡ all_occur (x - 1) left
+  unfolding all_occur
+  occur_next zero rest z e = absurd (z refl)
+  occur_next (suc x) rest z e =
+      let p : suc x - 1 ≡ x = omega arith in
+      rest ∙ rw (p, le-leb 1 (counted x left) (let q : counted x left ≡ 0 → ⊥ = rw p at e in omega arith))
 
-pub all_occur_all : (vars : ℕ) (left : List ℕ) → all_occur vars left ≡ list_all (λ x. leb 1 (counted x left)) (range_with_len 0 vars)
-unfolding all_occur
-all_occur_all zero left = refl
-all_occur_all (suc x) left =
-    let t = λ (y : ℕ). leb 1 (counted y left) in
-    let z : 0 + x ≡ x = omega arith in
-    let e = rw z at (ap (list_all t) (range_more 0 x) ∙ list_all-append t (range_with_len 0 x) ((0 + x) ∷ [])) in
-    last_first (leb 1 (counted x left)) (all_occur x left) ∙ rw (all_occur_all x left) (sym e)
+  pub occur_all : (x : ℕ) → all_occur vars left ≡ all_occur x left → x ≡ 0 → true ≡ all_occur vars left
+  unfolding all_occur
+  occur_all x rest z = sym (rest ∙ rw z)

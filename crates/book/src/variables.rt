@@ -42,7 +42,13 @@ pub fn one_count(left: &[u32], words: &[u32]) -> bool
 pub fn all_occur(vars: u32, left: &[u32]) -> bool
     ensures { result ≡ all_occur vars left.now }
 {
-    (0..vars).all(|x| counted_in(x, left) != NO_COUNT)
+    // From the last down, as the definition goes: it ends at the first that does not occur.
+    for x in (0..vars).rev() {
+        if counted_in(x, left) == NO_COUNT {
+            return false;
+        }
+    }
+    true
 }
 
 // Whether a word, where it is a variable, is one below `vars`.

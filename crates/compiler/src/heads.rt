@@ -25,7 +25,7 @@ pub fn is_head(w: u32) -> bool
 
 // The symbol or abstraction of a rule at the place with this number.
 #[tactic(auto, using(crate::proofs::TableLaws::spot_found))]
-fn head_at(fixed: &[u32; FIXED], nums: &[u32; SPOTS], r: usize, n: u32) -> Option<u32>
+pub fn head_at(fixed: &[u32; FIXED], nums: &[u32; SPOTS], r: usize, n: u32) -> Option<u32>
     requires { (r < 64) × (n < 4096) }
     ensures { result ≡ unless 33554432 (head_word fixed.now nums.now r n) }
 {
@@ -111,7 +111,8 @@ fn is_new(
     !(0..r).any(|q| has_head(fixed, nums, marks, q, n, w))
 }
 
-// The head that first appears in row r.
+// The head that first appears in row r. Not in line, so that a level of tree_of takes less of the stack.
+#[inline(never)]
 pub fn new_head(
     fixed: &[u32; FIXED],
     nums: &[u32; SPOTS],

@@ -62,7 +62,8 @@ fn number_row(
     }
 }
 
-// Numbers the children that the rows have at the place.
+// Numbers the children that the rows have at the place. Not in line, so that a level of tree_of takes less of the stack.
+#[inline(never)]
 pub fn number_rows(
     fixed: &[u32; FIXED],
     nums: &mut [u32; SPOTS],

@@ -68,14 +68,14 @@ module _ (bs book tree out done : List ℕ) (r : First) (room : length out ≡ 6
       let said : refused (file_answer (file_said bs)) ≡ true = sym told.refuses ∙ ap (λ (o : Option Ready). is_none o) e in
       rw (first_printed, said)
 
-  -- any other: the first block, and then that of each term, of which the first has the number 0
-  pub file_printed : (printed : List (List ℕ)) (k : Ready) → r.ready ≡ Some k → Calls bs (take k.book book) (take k.tree tree) k.at 0 printed → take r.length done ∷ printed ≡ blocks bs
+  -- any other: the first block, and then that of each term
+  pub file_printed : (printed : List (List ℕ)) (k : Ready) → r.ready ≡ Some k → Calls bs (take k.book book) (take k.tree tree) k.at k.number printed → take r.length done ∷ printed ≡ blocks bs
   unfolding blocks
   file_printed printed k e c =
       let g = told.ready k e in
       let f = file_said bs in
       let taken : refused (file_answer f) ≡ false = sym told.refuses ∙ ap (λ (o : Option Ready). is_none o) e in
-      let said : Calls bs (file_book f) (tree_words (file_book f)) k.at 0 printed = rw (g.book_words, g.tree_words) at c in
+      let said : Calls bs (file_book f) (tree_words (file_book f)) k.at 0 printed = rw (g.book_words, g.tree_words, g.from_zero) at c in
       ap₂ ◌∷◌ first_printed
       (terms_printed bs (file_book f) (due_after (file_book f)) (file_terms f) g.terms said
       ∙ sym (ap (λ (b : Bool). pick b [] (term_blocks (file_book f) 0 (file_terms f))) taken))

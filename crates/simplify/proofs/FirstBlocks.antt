@@ -65,7 +65,7 @@ module _ (book : List ℕ) (at : ℕ) (tree out done : List ℕ) (a : Answer) (e
       }
 
   pub head_made : (n words : ℕ) → number_of a < 10 → tree ≡ compile_words 16384 book → words ≡ compile_length 16384 book → Brief (head_text (get_or book 0 0) words) out done n
-      → HeadTold book at tree out done (record { length = n; ready = Some (record { book = length book; tree = words; at = at }) })
+      → HeadTold book at tree out done (record { length = n; ready = Some (record { book = length book; tree = words; at = at; number = 0 }) })
   head_made n words h t w s =
       let m = made h in
       let long : words ≡ length (tree_words book) = w ∙ m.said in
@@ -74,13 +74,14 @@ module _ (book : List ℕ) (at : ℕ) (tree out done : List ℕ) (a : Answer) (e
         block = rw (sym e, lt-leb 10 (number_of a) h, sym long) (s.0, s.1, omega (arith, s.2));
         refuses = rw (sym e, lt-leb 10 (number_of a) h);
         ready = λ k q.
-            let i : ◌≡◌ {A = Ready} (record { book = length book; tree = words; at = at }) k = cc in
+            let i : ◌≡◌ {A = Ready} (record { book = length book; tree = words; at = at; number = 0 }) k = cc in
             subst (λ (x : Ready). HeadReady book tree at x) i
             (record {
               book_size = refl;
               tree_words = rw lies (take_at (tree_words book) (replicate (16384 - length (tree_words book)) 0) words (sym long));
               tree_fits = rw (lies, length-append (tree_words book) (replicate (16384 - length (tree_words book)) 0)) (omega (arith, long));
               where_terms = refl;
+              from_zero = refl;
             });
       }
 
@@ -104,4 +105,5 @@ module _ (bs book tree out done : List ℕ) where
             terms = rw (f.said, g.where_terms) f.left;
             inside = rw g.where_terms f.inside;
             short = f.short;
+            from_zero = g.from_zero;
           }

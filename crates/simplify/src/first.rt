@@ -11,13 +11,14 @@ use text::book_text::BOOK;
 use text::refusal::{FIRST_REFUSAL, write_refusal};
 use tree::node::MOST_TREE;
 
-// What stands ready for the terms: so many words of the book and of its tree, and the offset of the first term.
+// What stands ready for the terms: so many words of the book and of its tree, and the offset and the number of the first term.
 // Numbers beside the lent arrays, since there is no heap.
 #[derive(Clone, Copy)]
 pub struct Ready {
     pub book: usize,
     pub tree: usize,
     pub at: usize,
+    pub number: u32,
 }
 
 // So many bytes of the block, and what stands ready where the file is not refused.
@@ -28,7 +29,7 @@ pub struct First {
 }
 
 // The first term has this number.
-pub const FIRST_TERM: u32 = 0;
+const FIRST_TERM: u32 = 0;
 
 // Compiles the book of a file in form, whose terms stand at `at`.
 fn head_block(book: &[u32], at: usize, tree: &mut [u32; MOST_TREE], out: &mut [u8]) -> First
@@ -49,6 +50,7 @@ fn head_block(book: &[u32], at: usize, tree: &mut [u32; MOST_TREE], out: &mut [u
             book: book.len(),
             tree: words as usize,
             at,
+            number: FIRST_TERM,
         }),
     }
 }

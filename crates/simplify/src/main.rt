@@ -9,7 +9,7 @@ mod next;
 
 ghost use Rattle.std.specs.Prelude.{◌≤◌, length};
 
-use first::{FIRST_TERM, first_block};
+use first::first_block;
 use next::next_block;
 use streams::standard::{has_arguments, print, read_all, read_failed};
 use text::book_text::BOOK;
@@ -36,14 +36,15 @@ fn print_terms(
     rt: &HostRuntime,
     text: &[u8],
     from: usize,
+    first: u32,
     book: &[u32],
     tree: &[u32],
     out: &mut [u8; BLOCK],
 )
-    requires { (from ≤ length text.now) × (length text.now ≤ 65536) }
+    requires { (from ≤ length text.now) × (length text.now ≤ 65536) × (first ≤ from) }
 {
     let mut at = from;
-    let mut term = FIRST_TERM;
+    let mut term = first;
     // The next offset is known only when the block is made.
     while at < text.len() {
         let next = next_block(text, at, term, book, tree, out);
@@ -72,6 +73,7 @@ fn print_file(
             rt,
             text,
             ready.at,
+            ready.number,
             &book[..ready.book],
             &tree[..ready.tree],
             out,

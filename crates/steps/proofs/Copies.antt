@@ -1,10 +1,10 @@
--- Words given and spliced: behind the new part stands what stood behind the old one.
+-- Copies and splices in words: what was copied so far stands there, and behind the new part stands what stood behind the old one.
 use mathlib.Core.Path.{◌≡◌, sym, ap, ◌∙◌}
 use mathlib.Core.List.{List, ◌++◌}
 use Prim.Native.Nat.{ℕ, zero, suc, ◌+◌, ◌-◌, ◌≤◌, ◌<◌}
 use native.Mathlib.Omega.{arith}
-use lib.ListN.{length, take, drop, replicate, length-append, length-drop}
-use lib.Seq.{length-take-le, take-length, take-add, take-take, drop_at, paste, take-paste}
+use lib.ListN.{length, get_or, take, drop, set, replicate, length-append, length-drop}
+use lib.Seq.{length-take-le, take-length, take-add, take-take, drop_at, paste, paste-suc, take-paste}
 use borrow.Author.Tests.{le-leb, lt-leb}
 use Rattle.term.specs.declared.answer.Answer.{Answer}
 use Rattle.term.specs.declared.answer.Answer.TheVariants as answer
@@ -13,6 +13,15 @@ use Rattle.term.specs.Part.{padded, part_end}
 use Rattle.term.proofs.Laws.{padded_fits, padded_short, part_short}
 use Rattle.steps.specs.Told.Area.{spliced_words, SpliceTold}
 use Rattle.steps.specs.Told.Operations.{given_answer}
+
+-- ---- a copy
+pub copied_more : (d : List ℕ) (at : ℕ) (s : List ℕ) (j : ℕ) (to : List ℕ) → at + length s ≤ length d → j < length s → to ≡ paste d at s j → set to (at + j) (get_or s j 0) ≡ paste d at s (j + 1)
+copied_more d at s j to room l e =
+    let y : suc j ≡ j + 1 = omega arith in
+    ap (λ (l : List ℕ). set l (at + j) (get_or s j 0)) e ∙ paste-suc d at s j 0 (omega arith) l ∙ ap (paste d at s) y
+
+pub copied_all : (d : List ℕ) (at : ℕ) (s : List ℕ) (j : ℕ) (to : List ℕ) → j ≤ length s → length s ≤ j → to ≡ paste d at s j → to ≡ paste d at s (length s)
+copied_all d at s j to l m e = let y : j ≡ length s = omega arith in e ∙ ap (paste d at s) y
 
 -- ---- words given into a cleared slice
 zeros_behind : (room n : ℕ) → drop {A = ℕ} n (replicate room 0) ≡ replicate (room - n) 0

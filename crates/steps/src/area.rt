@@ -14,7 +14,10 @@ pub fn copy(from: &[u32], to: &mut [u32], at: usize)
     requires { at + length from.now ≤ length to.old }
     ensures { to.new ≡ paste to.old at from.now (length from.now) }
 {
-    to[at..at + from.len()].copy_from_slice(from);
+    // Word by word: the library's copy_from_slice makes the archive need memmove, which include/rosenduch.h does not name.
+    for j in 0..from.len() {
+        to[at + j] = from[j];
+    }
 }
 
 // Gives an answer with words into a cleared slice, where they have room.

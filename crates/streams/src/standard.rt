@@ -1,5 +1,5 @@
 // Standard input and output, and what is said on standard error where they fail: in the words that a program lends, since they name it.
-ghost use Rattle.std.specs.Prelude.{length, IsTrue, IsFalse};
+ghost use Rattle.std.specs.Prelude.{length, IsTrue, IsFalse, OnOk};
 ghost use Rattle.std.specs.Io.KnownBytes.{Appends, Keeps};
 ghost use Rattle.streams.specs.Told.Told.{Within, CameIn};
 
@@ -25,13 +25,30 @@ pub fn read_all<R: Read>(input: &mut R, text: &mut [u8]) -> io::Result<usize>
     Ok(n)
 }
 
+// Writes all of the bytes, or stops at the first write that fails or takes nothing. By its own loop: the library's `write_all` makes a write that
+// was interrupted again and again, and has other words for a write that takes nothing.
+fn write_whole<W: Write>(out: &mut W, bytes: &[u8]) -> io::Result<()>
+    ensures { OnOk result (Appends (W.contents out.old) (W.contents out.new) bytes.now) }
+{
+    let mut done: usize = 0;
+    // Only a write says how many bytes it took.
+    while done < bytes.len() {
+        let more = out.write(&bytes[done..])?;
+        if more == 0 {
+            return Err(io::Error::from(io::ErrorKind::WriteZero));
+        }
+        done = done + more;
+    }
+    Ok(())
+}
+
 // Writes a line: what failed, as the caller names it, a colon and the system's words for why. Where that fails too, nobody is left to tell.
 fn say_failed(said: &mut impl Write, name: &[u8], error: io::Error) {
     let reason = Reason::of(error);
-    let _named = said.write_all(name).is_ok();
-    let _parted = said.write_all(b": ").is_ok();
-    let _told = said.write_all(reason.words()).is_ok();
-    let _ended = said.write_all(b"\n").is_ok();
+    let _named = write_whole(said, name).is_ok();
+    let _parted = write_whole(said, b": ").is_ok();
+    let _told = write_whole(said, reason.words()).is_ok();
+    let _ended = write_whole(said, b"\n").is_ok();
 }
 
 // Says of the input with this name why a read failed.
@@ -44,7 +61,7 @@ pub fn print<W: Write, S: Write>(out: &mut W, said: &mut S, block: &[u8], output
     ensures whole { IsTrue result → Appends (W.contents out.old) (W.contents out.new) block.now }
     ensures silent { IsTrue result → Keeps (S.contents said.old) (S.contents said.new) }
 {
-    match out.write_all(block) {
+    match write_whole(out, block) {
         Ok(()) => true,
         Err(error) => {
             say_failed(said, output, error);
@@ -61,7 +78,7 @@ pub fn has_arguments<S: Write>(env: &impl Env, said: &mut S, usage: &[u8]) -> bo
     match env.arg(1, &mut first) {
         Err(FillError::NotPresent) => false,
         _ => {
-            let _said = said.write_all(usage).is_ok();
+            let _said = write_whole(said, usage).is_ok();
             true
         }
     }

@@ -113,5 +113,5 @@ pub fn same_body(
 {
     good_list(d, list)
         && good_list(other_d, other_list)
-        && left_open(words, d, list, other_words, other_d, other_list)
+        && left_open(words, d, list, other_words, other_d, other_list) == 0
 }

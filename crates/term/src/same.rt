@@ -1,6 +1,6 @@
 // Whether two parts, each under its own abstractions and with its own list, have the same body. The second part is `others`, under c
 // abstractions, with the list `ids`.
-ghost use Rattle.std.specs.Prelude.{◌≡◌, ◌&&◌, true, ◌≤◌, leb, ltb, length};
+ghost use Rattle.std.specs.Prelude.{◌≡◌, ◌&&◌, true, ◌≤◌, eqb, leb, ltb, length};
 ghost use Rattle.term.specs.Part.{same_body};
 ghost use Rattle.term.specs.Renumber.{good_list, id_body};
 ghost use Rattle.term.specs.Told.Walk.{image_of, same_image, inner_word, meeting};
@@ -71,14 +71,13 @@ fn same_word(d: u32, list: &[u32], c: u32, ids: &[u32], e: u32, w: u32, x: u32) 
     v == u
 }
 
-// Whether both parts have the same body: no level is left open where one pass over both ends. The open levels lie in `left`, the innermost
-// last, each with the number of its trees that are still to begin, and in `under` with the abstractions around them. The loops count by hand:
-// document 01 asks for nested loops with a label here.
-pub fn left_open(words: &[u32], d: u32, list: &[u32], others: &[u32], c: u32, ids: &[u32]) -> bool
+// How many levels are still open where one pass over both parts ends: none just where they have the same body. The open levels lie in `left`,
+// the innermost last, each with the number of its trees that are still to begin, and in `under` with the abstractions around them: arrays with
+// their depth beside them, since there is no heap. The loops count by hand: document 01 asks for nested loops with a label here.
+pub fn left_open(words: &[u32], d: u32, list: &[u32], others: &[u32], c: u32, ids: &[u32]) -> usize
     requires { (good_list d list.now ≡ true) × (good_list c ids.now ≡ true) }
-    ensures { result ≡ same_body d list.now words.now c ids.now others.now }
+    ensures { eqb result 0 ≡ same_body d list.now words.now c ids.now others.now }
 {
-    // Arrays with their depth beside them, since there is no heap.
     let mut left = [1u32; OPEN_LEVELS];
     let mut under = [0u32; OPEN_LEVELS];
     let mut depth = 1;
@@ -112,5 +111,5 @@ pub fn left_open(words: &[u32], d: u32, list: &[u32], others: &[u32], c: u32, id
             break 'pass;
         }
     }
-    depth == 0
+    depth
 }

@@ -9,4 +9,4 @@ pub shared_ref_as_front-print_terms-in-Some : goal.shared_ref_as_front-print_ter
 shared_ref_as_front-print_terms-in-Some c = omega (arith, (c.first_block-first.ensures.ready c.in-Some.ready c.in-Some.is).tree_fits)
 
 pub print_terms-requires : goal.print_terms-requires
-print_terms-requires c = let g = c.first_block-first.ensures.ready c.in-Some.ready c.in-Some.is in (g.inside, g.short)
+print_terms-requires c = let g = c.first_block-first.ensures.ready c.in-Some.ready c.in-Some.is in (g.inside, g.short, omega (arith, g.from_zero))

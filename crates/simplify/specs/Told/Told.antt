@@ -47,19 +47,20 @@ abbrev pub BlockTold : List ℕ → List ℕ → List ℕ → ℕ → Type 0
 BlockTold block out done n = (n ≡ length block) × (done ≡ sets out 0 block) × (n ≤ 65536)
 
 -- ---- the first block
--- the tree of an accepted book lies in front, and the terms stand where they stood
+-- the tree of an accepted book lies in front, and the terms stand where they stood, the first with the number 0
 pub record HeadReady (book tree : List ℕ) (at : ℕ) (k : Ready) : Type 0 where
   pub book_size : k.book ≡ length book
   pub tree_words : take k.tree tree ≡ tree_words book
   pub tree_fits : k.tree ≤ length tree
   pub where_terms : k.at ≡ at
+  pub from_zero : k.number ≡ 0
 
 pub record HeadTold (book : List ℕ) (at : ℕ) (tree out done : List ℕ) (r : First) : Type 0 where
   pub block : BlockTold (book_block book (compile_answer 16384 book)) out done r.length
   pub refuses : is_none r.ready ≡ refused (compile_answer 16384 book)
   pub ready : (k : Ready) → r.ready ≡ Some k → HeadReady book tree at k
 
--- what is ready for the terms of a file that is not refused: its book, the book's tree, and where its terms stand
+-- what is ready for the terms of a file that is not refused: its book, the book's tree, and where its terms stand, the first with the number 0
 pub record FileReady (bs book tree : List ℕ) (k : Ready) : Type 0 where
   pub book_words : take k.book book ≡ file_book (file_said bs)
   pub book_fits : k.book ≤ length book
@@ -68,6 +69,7 @@ pub record FileReady (bs book tree : List ℕ) (k : Ready) : Type 0 where
   pub terms : terms_read (due_after (file_book (file_said bs))) (drop k.at bs) ≡ terms_are (file_terms (file_said bs))
   pub inside : k.at ≤ length bs
   pub short : length bs ≤ 65536
+  pub from_zero : k.number ≡ 0
 
 pub record FirstTold (bs book tree out done : List ℕ) (r : First) : Type 0 where
   pub block : BlockTold (first_block (file_said bs)) out done r.length

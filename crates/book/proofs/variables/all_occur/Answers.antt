@@ -1,13 +1,14 @@
--- `variables::all_occur` meets its contract: it asks of each variable what the definition asks.
-use Rattle.std.proofs.Common.{sym, ◌∙◌, leb, refl, rules, tests, arith}
-use Rattle.std.proofs.lemmas.Iterator.{YieldsList-from_range}
-use Rattle.std.proofs.lemmas.Iterator.Search.{all_from_yields_List}
-use Rattle.book.specs.Rule.{counted}
-use Rattle.book.proofs.Counts.{all_occur_all}
+-- `variables::all_occur` meets its contract: the variables that are left give the answer.
+use Rattle.std.proofs.Common.{sym, ◌∙◌, arith}
+use Rattle.book.proofs.Counts.{occur_absent, occur_next, occur_all}
 use Rattle.book.proofs.variables.all_occur.Goals as goal
 
+pub returns-then-counted_in-eq-NO_COUNT : goal.returns-then-counted_in-eq-NO_COUNT
+returns-then-counted_in-eq-NO_COUNT c =
+    occur_absent _ _ c.loop-x.x c.loop-x.invariant (λ z. omega arith) (sym c.counted_in.ensures ∙ c.if-counted_in-eq-NO_COUNT.true)
+
+pub loop-x-preserved : goal.loop-x-preserved
+loop-x-preserved c = occur_next _ _ c.loop-x.x c.loop-x.invariant (λ z. omega arith) (λ e. c.if-counted_in-eq-NO_COUNT.false (c.counted_in.ensures ∙ e))
+
 pub returns : goal.returns
-returns c =
-    all_from_yields_List (λ x. leb 1 (counted x c.args.left.now))
-    _ _ _ c.all.ensures.ran (YieldsList-from_range 0 c.args.vars c.args.vars refl (omega arith)) (λ x b q k. search (rules, tests))
-    ∙ sym (all_occur_all c.args.vars c.args.left.now)
+returns c = occur_all _ _ c.loop-x.x c.loop-x.invariant (omega arith)

@@ -14,7 +14,6 @@ use Rattle.term.proofs.Lists.{good_true, Sought, sought_first}
 use Rattle.term.proofs.Pass.{near}
 use Rattle.term.proofs.Compare.{Rest, Low, low_first, low_next, low_inside, start, whole, closed, stopped, unlike, entered, differ, Inner, is_inner, met_neither, met_both, met_apart, stands_near}
 use Rattle.term.proofs.same.left_open.Goals.{After-inside_word, After-met_at, Else-not-both_stand, In-Neither, Then-both_inner}
-use Rattle.term.proofs.same.left_open.Goals.{else-pass-test, then-pass-test+else-left-depth-eq0+then-not-both_stand, then-pass-test+else-left-depth-eq0+else-not-both_stand+then-both_inner+in-Apart, then-pass-test+else-left-depth-eq0+else-not-both_stand+else-both_inner+then-not-same_word}
 use Rattle.term.proofs.same.left_open.Goals as goal
 
 -- both parts have a word there
@@ -127,24 +126,23 @@ same_word-requires c = ((good_true _ _ c.requires.0).few, (good_true _ _ c.requi
 pub pass-preserved : goal.pass-preserved
 pass-preserved c = next (goal.at.pass-preserved c).After-inside_word (cc)
 
-pub returns : goal.returns
-returns c =
-    elim c.pass-test.branch [
-      | else-pass-test w ↦ rw (w.depth-is) (whole _ _ _ _ _ _ _ _ _ _ c.pass.invariant.5 w.pass-test.false)
-      | then-pass-test+else-left-depth-eq0+then-not-both_stand w ↦
-          let z = w.pass-test.true in
-          rw (w.depth-is) (differ _ _ _ _ _ _ _ z (stopped _ _ _ _ _ _ _ _ _ _ c.pass.invariant.5 z w.if-left-depth-eq0.false (cc)))
-      | then-pass-test+else-left-depth-eq0+else-not-both_stand+then-both_inner+in-Apart w ↦
-          let q = c.pass in
-          let a = c.args in
-          let e = get_or q.under (q.depth - 1) 0 in
-          let both : inner_word a.d e (get_or a.words.now q.at 0) && inner_word a.c e (get_or a.others.now q.at 0) ≡ true = sym w.both_inner.ensures ∙ w.if-both_inner.true in
-          let met : w.met_at.result ≡ meeting a.list.now (ident_of (get_or a.words.now q.at 0) - e) a.ids.now (ident_of (get_or a.others.now q.at 0) - e) w.loop-j.j
-          = rw (w.id_of.ensures, w.id_of-in-loop-j.ensures) at w.met_at.ensures in
-          rw (w.depth-is) (differ _ _ _ _ _ _ (q.depth + 1) (λ z. omega arith)
-          (unlike _ _ _ _ _ _ _ _ _ _ q.invariant.5 w.pass-test.true w.if-left-depth-eq0.false (cc)
-          (met_apart _ _ _ _ _ _ _ _ (is_inner _ _ _ (and_left _ _ both)) (is_inner _ _ _ (and_right _ _ both)) w.loop-j.invariant.1 w.loop-j.invariant.2 (sym met ∙ w.in-Apart.is))))
-      | then-pass-test+else-left-depth-eq0+else-not-both_stand+else-both_inner+then-not-same_word w ↦
-          rw (w.depth-is) (differ _ _ _ _ _ _ (c.pass.depth + 1) (λ z. omega arith)
-          (unlike _ _ _ _ _ _ _ _ _ _ c.pass.invariant.5 w.pass-test.true w.if-left-depth-eq0.false (cc) (cc)))
-    ]
+pub returns-after-pass : goal.returns-after-pass
+returns-after-pass c = whole _ _ _ _ _ _ _ _ _ _ c.pass.invariant.5 c.pass-test.false
+
+pub returns-then-not-both_stand : goal.returns-then-not-both_stand
+returns-then-not-both_stand c =
+    let z = c.pass-test.true in
+    differ _ _ _ _ _ _ _ z (stopped _ _ _ _ _ _ _ _ _ _ c.pass.invariant.5 z c.if-left-depth-eq0.false (cc))
+
+pub returns-in-Apart : goal.returns-in-Apart
+returns-in-Apart c =
+    let q = c.pass in
+    let w = goal.at.returns-in-Apart c in
+    differ _ _ _ _ _ _ (q.depth + 1) (λ z. omega arith)
+    (unlike _ _ _ _ _ _ _ _ _ _ q.invariant.5 c.pass-test.true c.if-left-depth-eq0.false (stood w.Else-not-both_stand)
+    (met_apart _ _ _ _ _ _ _ _ (inner w.Then-both_inner) (inner_other w.Then-both_inner) c.loop-j.invariant.1 c.loop-j.invariant.2 (sym (met w.After-met_at) ∙ c.in-Apart.is)))
+
+pub returns-then-not-same_word : goal.returns-then-not-same_word
+returns-then-not-same_word c =
+    differ _ _ _ _ _ _ (c.pass.depth + 1) (λ z. omega arith)
+    (unlike _ _ _ _ _ _ _ _ _ _ c.pass.invariant.5 c.pass-test.true c.if-left-depth-eq0.false (stood (goal.at.returns-then-not-same_word c).Else-not-both_stand) (cc))
