@@ -1,80 +1,68 @@
--- What the program prints is `printed`: what came by mail decides whether a text was repaired, and a refusal is written over the zeros that it leaves.
-use mathlib.Core.Path.{◌≡◌, sym, ap, ◌∙◌}
+-- What the program prints is `printed`: with room for every repaired text, what came by mail alone decides whether a text came back or a refusal, and a
+-- refusal is written over the zeros that it leaves.
+use mathlib.Core.Path.{◌≡◌, refl, sym, ◌∙◌}
 use mathlib.Core.Bool.{Bool, true, false}
 use mathlib.Core.List.{List}
 use Prim.Native.Nat.{ℕ, ◌≤◌}
 use native.Mathlib.Omega.{arith}
-use lib.Dec.{leb}
+use lib.Dec.{eqb}
 use lib.ListN.{length, take, replicate}
 use lib.Seq.{sets, take_at}
-use Rattle.std.specs.Prelude.{Result, Ok, Err}
+use borrow.Author.Tests.{eqb-true}
+use Rattle.std.specs.Prelude.{Result, Ok, Err, ◌⊎◌}
 use Rattle.term.specs.declared.answer.Answer.{Answer}
-use Rattle.term.specs.declared.answer.Answer.TheVariants.{Short, BadText}
-use Rattle.term.specs.Answer.{place_of}
-use Rattle.term.specs.Word.{pick}
+use Rattle.term.specs.declared.answer.Answer.TheVariants.{Done, Short, BadText}
+use Rattle.term.specs.Answer.{number_of, answered}
 use Rattle.term.specs.Part.{padded}
 use Rattle.term.proofs.Laws.{never, wrote, padded_fits}
-use Rattle.text.specs.BookText.{book_text}
-use Rattle.text.specs.Mail.{Mail, mail_is, bad_mail, mail_said}
+use Rattle.text.specs.Mail.{Mail, mail_said}
 use Rattle.text.specs.Refusal.{refusal_block}
-use Rattle.text.proofs.Laws.{Brief}
-use Rattle.mend.specs.Repair.{new_book, repaired_text}
-use Rattle.mend.specs.Told.Told.{RepairTold}
-use Rattle.mend.proofs.Laws.{Mended, Mends, repair_mends}
+use Rattle.mend.specs.Repair.{repair_answer, RepairBookOutcome, repair_book_came, repair_book_gives}
+use Rattle.mend.specs.Told.Told.{answer_of, length_of, RepairTold}
+use Rattle.mend.proofs.Laws.{Mends, repair_mends, repair_gives}
 use Rattle.repair.specs.Printed.{printed_of, printed}
 
--- so many bytes are printed, and what stands in the output
+-- ---- what comes back
+-- a refusal over zeros, whose lines are what is printed
+abbrev pub Refused : (room : ℕ) (text : List ℕ) → RepairBookOutcome → Answer → Type 0
+Refused room text o a = (o ≡ repair_book_came (answered a) (replicate room 0)) × (text ≡ refusal_block a)
+
+-- the text that is printed, or one of two refusals
+abbrev pub Decided : (room : ℕ) (text : List ℕ) (n : ℕ) → RepairBookOutcome → Type 0
+Decided room text n o =
+    ((o ≡ repair_book_came (answered Done) (padded room text)) × (n ≡ length text) × (length text ≤ room))
+    ⊎ (Refused room text o Short ⊎ ((line : ℕ) × (line ≤ 65542) × Refused room text o (BadText line)))
+
+mends_decide : (room : ℕ) (o : RepairBookOutcome) (m : Mail) (done : List ℕ) (r : Result ℕ Answer) → repair_book_came (answered (answer_of r)) done ≡ o
+    → Mends room m done r → Decided room (printed_of m) (length_of m) o
+mends_decide room o m done r k w = grind arith
+
+number_zero : (a : Answer) → number_of a ≡ 0 → a ≡ Done
+number_zero a e = grind arith
+
+module _ (bs : List ℕ) (room : ℕ) (enough : 131088 ≤ room) where
+  module _ (done : List ℕ) (a : Answer) (k : repair_book_came (answered a) done ≡ repair_book_gives bs room) where
+    told_decides : (r : Result ℕ Answer) → RepairTold bs room done r → Decided room (printed bs) (length_of (mail_said bs)) (repair_book_gives bs room)
+    unfolding printed
+    told_decides r t = mends_decide room (repair_book_gives bs room) (mail_said bs) done r t.came (repair_mends bs room done r t enough)
+
+    -- an answer of 0 comes with the length of the text, another is the refusal itself
+    by_number : (b : Bool) → eqb (number_of a) 0 ≡ b → Decided room (printed bs) (length_of (mail_said bs)) (repair_book_gives bs room)
+    by_number true q =
+        let z : a ≡ Done = number_zero a (eqb-true (number_of a) 0 q) in
+        told_decides (Ok (length_of (mail_said bs))) (record { came = rw z at k; size = λ d. refl })
+    by_number false q = told_decides (Err a) (record { came = k; size = λ d. never (let z = rw d at q in cc) })
+
+  pub decided : Decided room (printed bs) (length_of (mail_said bs)) (repair_book_gives bs room)
+  decided = by_number _ _ (sym (repair_gives bs room)) (eqb (number_of (repair_answer room (mail_said bs))) 0) refl
+
+-- ---- what is written over zeros is followed by zeros
+pub over_zeros : (room : ℕ) (ws : List ℕ) → length ws ≤ room → sets (replicate room 0) 0 ws ≡ padded room ws
+over_zeros room ws h = (wrote room ws (sets (replicate room 0) 0 ws) h refl).1
+
+-- ---- so many bytes are printed, and what stands in the output
 abbrev pub Block : List ℕ → List ℕ → ℕ → Type 0
 Block text done n = (n ≡ length text) × (n ≤ 131088) × (done ≡ padded 131088 text)
-
-module _ (bs done : List ℕ) (r : Result ℕ Answer) (t : RepairTold bs 131088 done r) where
-  mends : Mends 131088 (mail_said bs) done r
-  mends = repair_mends bs 131088 done r t (omega arith)
-
-  -- ---- a repaired text
-  pub block_repaired : (n : ℕ) → r ≡ Ok n → Block (printed bs) done n
-  unfolding printed
-  block_repaired n e = go (mail_said bs) mends
-    where
-      by_size : (b : Bool) (text : List ℕ) → Mended b 131088 text done r → Block (pick b text (refusal_block Short)) done n
-      by_size true text m = let l : n ≡ length text = cc (e, m.0) in (l, omega (arith, l, m.1), m.2)
-      by_size false text m = never (cc)
-
-      go : (m : Mail) → Mends 131088 m done r → Block (printed_of m) done n
-      go (mail_is stated rules) m = by_size (leb (length (book_text (new_book rules))) 65536) (repaired_text stated rules) m
-      go (bad_mail line) m = never (cc)
-
-  -- ---- a refusal has a short place
-  module _ (a : Answer) (e : r ≡ Err a) where
-    pub place_small : place_of a ≤ 70000
-    place_small = go (mail_said bs) mends
-      where
-        by_size : (b : Bool) (text : List ℕ) → Mended b 131088 text done r → place_of a ≤ 70000
-        by_size true text m = never (cc)
-        by_size false text m = let q : a ≡ Short = cc (e, m.0) in rw q (omega arith)
-
-        go : (m : Mail) → Mends 131088 m done r → place_of a ≤ 70000
-        go (mail_is stated rules) m = by_size (leb (length (book_text (new_book rules))) 65536) (repaired_text stated rules) m
-        go (bad_mail line) m = let q : a ≡ BadText line = cc (e, m.0) in rw q (omega (arith, m.1))
-
-    module _ (last : List ℕ) (n : ℕ) (w : Brief (refusal_block a) done last n) where
-      refusal : (b : Answer) → a ≡ b → done ≡ replicate 131088 0 → Block (refusal_block b) last n
-      refusal b q z =
-          let l : n ≡ length (refusal_block b) = w.0 ∙ ap (λ (x : Answer). length (refusal_block x)) q in
-          let s : last ≡ sets (replicate 131088 0) 0 (refusal_block b) = w.1 ∙ rw (q, z) in
-          (l, omega (arith, w.2), (wrote 131088 (refusal_block b) last (omega (arith, l, w.2)) s).1)
-
-      pub block_refused : Block (printed bs) last n
-      unfolding printed
-      block_refused = go (mail_said bs) mends
-        where
-          by_size : (b : Bool) (text : List ℕ) → Mended b 131088 text done r → Block (pick b text (refusal_block Short)) last n
-          by_size true text m = never (cc)
-          by_size false text m = refusal Short (cc (e, m.0)) m.1
-
-          go : (m : Mail) → Mends 131088 m done r → Block (printed_of m) last n
-          go (mail_is stated rules) m = by_size (leb (length (book_text (new_book rules))) 65536) (repaired_text stated rules) m
-          go (bad_mail line) m = refusal (BadText line) (cc (e, m.0)) m.2
 
 -- what is printed of the output is what is to be printed
 pub block_printed : (bs done : List ℕ) (n : ℕ) → Block (printed bs) done n → take n done ≡ printed bs

@@ -8,6 +8,7 @@ use mend::repair::repair;
 use text::refusal::write_refusal;
 
 // Writes the repaired text, or the lines of its refusal; so many bytes are to be printed.
+#[tactic(auto, using(crate::proofs::Blocks::decided, crate::proofs::Blocks::over_zeros))]
 pub fn repair_block(text: &[u8], out: &mut [u8; BLOCK]) -> usize
     ensures { (result ≡ length (printed text.now)) × (result ≤ 131088) × (out.new ≡ padded 131088 (printed text.now)) }
 {
